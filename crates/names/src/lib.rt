@@ -1,0 +1,3 @@
+// Trip references: the alphabet, check characters, templates and names, and what refuses them.
+pub mod fault;
+pub mod name;

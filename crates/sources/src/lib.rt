@@ -1,0 +1,3 @@
+// Sources: where the numbers of names come from.
+pub mod fault;
+pub mod source;
