@@ -1,2 +1,11 @@
+pub mod Alphabet
+pub mod Check
 pub mod Faults
+pub mod Forms
+pub mod Grammar
+pub mod Guard
+pub mod Naming
+pub mod Reader
+pub mod Templates
 pub mod Texts
+pub mod Validate

@@ -1,7 +1,7 @@
 -- Texts of bytes.
-use mathlib.Core.List.{List}
-use Prim.Native.Nat.{ℕ}
-use lib.ListN.{getD, set, take}
+use mathlib.Core.List.{List, _++_}
+use Prim.Native.Nat.{ℕ, _+_}
+use lib.ListN.{length, getD, set, take, drop}
 use Rattle.names.specs.declared.name.Name.{Name}
 
 -- the bytes of a name
@@ -11,3 +11,7 @@ text-of x = take (x .len) (x .bytes)
 -- a text with the bytes at two places exchanged
 abbrev pub swapped : List ℕ → ℕ → ℕ → List ℕ
 swapped t i j = set (set t i (getD t j 0)) j (getD t i 0)
+
+-- a text with another written over it from a place on
+abbrev pub written : List ℕ → ℕ → List ℕ → List ℕ
+written t at s = take at t ++ (s ++ drop (at + length s) t)

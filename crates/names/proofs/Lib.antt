@@ -1,0 +1,13 @@
+pub mod Bytes
+pub mod Characters
+pub mod Exactly
+pub mod Examples
+pub mod Goes
+pub mod Guarded
+pub mod Numbers
+pub mod Seen
+pub mod Slots
+pub mod Sums
+pub mod Templates
+pub mod Undone
+pub mod Walks
