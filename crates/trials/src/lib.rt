@@ -1,0 +1,3 @@
+// Trials of the stores from outside: both against a map, and under a key kind that the stores do not know.
+#[cfg(test)]
+mod tests;
