@@ -1,9 +1,11 @@
-// Texts cut at a byte: lines at the line end, words at the space.
+// Texts: cut at a byte, lines at the line end and words at the space; and put into a lent buffer.
 ghost use mathlib.Core.List.{List, _∷_};
 ghost use mathlib.Core.Path.{_≡_};
 ghost use Prim.Native.Nat.{_+_, _-_, _<_, _≤_};
 ghost use lib.ListN.{drop, length, take};
 ghost use Rattle.texts.specs.Pieces.{pieces, upto};
+
+pub mod output;
 
 // Where the piece that begins at `from` ends: at the next `mark`, or with the text. From past the text's end on that is `from` itself.
 pub fn piece_end(text: &[u8], from: usize, mark: u8) -> usize

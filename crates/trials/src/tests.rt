@@ -1,7 +1,6 @@
 // Both stores against a map, and under a key kind of the tests' own.
-ghost use mathlib.Core.Bool.{_&&_};
-ghost use Prim.Native.Nat.{_+_, _%_};
-ghost use lib.Dec.{eqb};
+use crate::operator::OperatorKey;
+use crate::operator::OperatorKeyKey;
 use std::collections::BTreeMap;
 use std::test::*;
 use stores::chain::Chain;
@@ -15,7 +14,6 @@ use stores::log::Log;
 use stores::log::check_length;
 use stores::log::entry::Entry;
 use stores::log::store::LogStore;
-use stores::store::Key;
 use stores::store::Store;
 use stores::tally::TallyKey;
 use stores::tally::TallyKeyKey;
@@ -126,28 +124,6 @@ fn log_answers_as_a_map(rt: LibcRuntime) -> Result<(), Fail> {
     let mut log = Log::over(&mut entries);
     let mut map = BTreeMap::new(rt.alloc());
     thousand(&mut log, &mut map)
-}
-
-// An operator's code of three capitals.
-#[derive(Clone, Copy, PartialEq, Eq, Debug)]
-struct OperatorKey {
-    first: u8,
-    second: u8,
-    third: u8,
-}
-
-impl Key for OperatorKey as OperatorKeyKey {
-    ghost alike = { λ x y. eqb (x .first) (y .first) && (eqb (x .second) (y .second) && eqb (x .third) (y .third)) };
-
-    ghost bucket = { λ x. (x .first + x .second + x .third) % 16 };
-
-    fn same(&self, other: &OperatorKey) -> bool {
-        (self.first == other.first) & ((self.second == other.second) & (self.third == other.third))
-    }
-
-    fn hash(&self) -> usize {
-        (self.first as usize + self.second as usize + self.third as usize) % 16
-    }
 }
 
 fn operator(first: u8, second: u8, third: u8) -> OperatorKey {

@@ -1,0 +1,8 @@
+// The register: its calls and answers, its faults, and the texts that it binds.
+pub mod call;
+pub mod fault;
+mod lists;
+pub mod over;
+pub mod register;
+pub mod run;
+pub mod text;

@@ -1,0 +1,3 @@
+// What the register does with its lists.
+pub(crate) mod dues;
+pub(crate) mod numbers;

@@ -1,0 +1,5 @@
+pub mod Digits
+pub mod Places
+pub mod Spelling
+pub mod Tables
+pub mod Typing

@@ -1,0 +1,35 @@
+// Why a line is refused.
+ghost use mathlib.Core.Path.{_≡_};
+ghost use Rattle.sessions.specs.Faults.{command-refusal};
+use names::fault::Layer;
+use names::fault::Refusal;
+use names::fault::TemplateFault;
+use names::fault::TemplateFaultDebug;
+use names::fault::TemplateFaultPartialEq;
+
+// The opening line's template is none; a line fits no form, with the place of its first wrong word; one line too many; too few bytes free for output.
+#[derive(Clone, Copy, PartialEq, Eq, Debug)]
+pub enum CommandFault {
+    Template(TemplateFault),
+    Line(usize),
+    Lines,
+    Output,
+}
+
+impl CommandFault {
+    pub fn refusal(self) -> Refusal
+        ensures { λ r. ⌜ r ≡ command-refusal self ⌝ }
+    {
+        let (number, place) = match self {
+            CommandFault::Template(fault) => return fault.refusal(),
+            CommandFault::Line(at) => (27, at),
+            CommandFault::Lines => (28, 0),
+            CommandFault::Output => (29, 0),
+        };
+        Refusal {
+            number,
+            layer: Layer::Command,
+            place,
+        }
+    }
+}
