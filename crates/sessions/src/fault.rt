@@ -1,16 +1,16 @@
 // Why a line is refused.
 ghost use mathlib.Core.Path.{_≡_};
 ghost use Rattle.sessions.specs.Faults.{command-refusal};
+use minter::fault::RegisterFault;
 use names::fault::Layer;
 use names::fault::Refusal;
 use names::fault::TemplateFault;
-use names::fault::TemplateFaultDebug;
-use names::fault::TemplateFaultPartialEq;
 
-// The opening line's template is none; a line fits no form, with the place of its first wrong word; one line too many; too few bytes free for output.
-#[derive(Clone, Copy, PartialEq, Eq, Debug)]
+// The opening line's template is none; the register refuses; a line fits no form, with the place of its first wrong word; one line too many; too few bytes free for output.
+#[derive(Clone, Copy)]
 pub enum CommandFault {
     Template(TemplateFault),
+    Register(RegisterFault),
     Line(usize),
     Lines,
     Output,
@@ -22,6 +22,7 @@ impl CommandFault {
     {
         let (number, place) = match self {
             CommandFault::Template(fault) => return fault.refusal(),
+            CommandFault::Register(fault) => return fault.refusal(),
             CommandFault::Line(at) => (27, at),
             CommandFault::Lines => (28, 0),
             CommandFault::Output => (29, 0),
