@@ -1,4 +1,6 @@
 // The chain table: a store over a lent list of records. Records 0 to 15 head the chains of the 16 hashes, record 16 the free chain.
+#![tactic(auto)]
+
 ghost use Rattle.std.specs.Prelude.{◌≡◌};
 
 pub mod calls;

@@ -1,4 +1,6 @@
 // checklist: the first line of standard input is a template, each later line a bare name as a crew read it back.
+#![tactic(auto)]
+
 mod sheet;
 
 use names::fault::{Layer, Refusal};

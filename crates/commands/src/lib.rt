@@ -1,4 +1,6 @@
 // Lines of a session read as commands, and why a line is refused.
+#![tactic(auto)]
+
 pub mod command;
 pub mod fault;
 mod form;

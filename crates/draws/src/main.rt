@@ -1,4 +1,6 @@
 // draws: the first line of standard input is a template, the second a count. It prints so many names in the order in which they are drawn.
+#![tactic(auto)]
+
 mod draw;
 
 use anyhow::anyhow;

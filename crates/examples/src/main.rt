@@ -1,4 +1,6 @@
 // examples: worked sessions, published names and every refusal, each tried; what came is printed beside what should have.
+#![tactic(auto)]
+
 mod beginnings;
 mod lengths;
 mod places;

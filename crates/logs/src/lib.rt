@@ -1,4 +1,6 @@
 // The log: a store over a lent list of records, each a put or a drop; a key's last record decides.
+#![tactic(auto)]
+
 ghost use Rattle.std.specs.Prelude.{◌≡◌, true, [], length, if◌then◌else◌, Ok, Err};
 ghost use Rattle.logs.specs.Logs.{book, fits_log, Sound, pairs};
 

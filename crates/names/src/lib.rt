@@ -1,4 +1,6 @@
 // Trip references: the alphabet, check characters, templates and names, and what refuses them.
+#![tactic(auto)]
+
 mod alphabet;
 pub mod check;
 pub mod fault;

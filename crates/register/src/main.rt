@@ -1,4 +1,6 @@
 // register: the lines of a session on standard input, its reports on standard output.
+#![tactic(auto)]
+
 use serving::serve::serve;
 use std::io::{Read, Write};
 

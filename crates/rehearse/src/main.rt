@@ -1,5 +1,7 @@
 // rehearse: a rehearsal of so many calls, drawn by fixed dice, through one register; the count is the argument. The law's counts are
 // taken again, apart from the register, and what was done is printed.
+#![tactic(auto)]
+
 mod dice;
 mod ledger;
 mod script;

@@ -1,4 +1,6 @@
 // Reports: the lines of output that answer a session's lines and its end.
+#![tactic(auto)]
+
 ghost use Rattle.std.specs.Prelude.{◌≡◌, [], ◌∷◌, decimal};
 ghost use Rattle.texts.specs.Output.{Wrote};
 ghost use Rattle.reports.specs.Reports.{spaced, line, told};

@@ -1,3 +1,5 @@
 // Whole runs over a new register.
+#![tactic(auto)]
+
 pub mod over;
 pub mod run;

@@ -1,4 +1,6 @@
 // Sources: where the numbers of names come from.
+#![tactic(auto)]
+
 pub mod chooser;
 pub mod fault;
 pub mod generator;

@@ -1,4 +1,6 @@
 // Stores: pairs of any kind of key and value.
+#![tactic(auto)]
+
 pub mod fault;
 pub mod store;
 pub mod tally;

@@ -1,4 +1,6 @@
 // Texts: cut at a byte, lines at the line end and words at the space; and put into a lent buffer.
+#![tactic(auto)]
+
 ghost use Rattle.std.specs.Prelude.{◌≡◌, ◌+◌, ◌-◌, ◌<◌, ◌≤◌, List, ◌∷◌, length, take, drop};
 ghost use Rattle.texts.specs.Pieces.{pieces, upto};
 

@@ -2,4 +2,4 @@ use Rattle.texts.proofs.Fill.{join}
 use Rattle.reports.proofs.two_words.Goals as goal
 
 pub returns : goal.returns
-returns c = join c.put-fill.ensures (join c.put-word-fill.ensures (join c.put-word-fill-2.ensures c.end-line.ensures))
+returns c = join c.put-fill.ensures (join c.put_word-fill.ensures (join c.put_word-fill-2.ensures c.end_line.ensures))

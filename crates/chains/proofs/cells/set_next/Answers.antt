@@ -5,8 +5,8 @@ use lib.Seq.{map-set, map-set_same}
 use Rattle.std.proofs.lemmas.List.{set_past}
 use Rattle.chains.proofs.cells.set_next.Goals as goal
 
-pub offset-bounds-nodes-at : goal.offset-bounds-nodes-at
-offset-bounds-nodes-at g c = let h = c.if-at-nodes.true in search scaled_Fits
+pub offset_bounds-nodes-at : goal.offset_bounds-nodes-at
+offset_bounds-nodes-at g c = let h = c.if-at-nodes.true in search scaled_Fits
 
 pub bounds-nodes-at : goal.bounds-nodes-at
 bounds-nodes-at g c = c.if-at-nodes.true

@@ -15,14 +15,14 @@ pub loop-i-preserved : goal.loop-i-preserved
 loop-i-preserved g c =
     let i = c.loop-i.i in
     let ls = (table c.loop-i.nodes).links in
-    let to = c.laid-next-to.result in
-    let e = c.set-next.ensures.links in
+    let to = c.laid_next-to.result in
+    let e = c.set_next.ensures.links in
     let lt : i < length ls = omega (arith, c.loop-i-test.true, c.loop-i.auto.nodes, length-map c.loop-i.nodes (λ n. n.next)) in (
       below_more _ _
           (λ k h. ap (λ zs. get_or zs k 0) e ∙ get_or-set_other ls i k to 0 (λ z. omega (arith, h, z)) ∙ c.loop-i.invariant.0 k h)
-          (ap (λ zs. get_or zs i 0) e ∙ get_or-set_same ls i to 0 lt ∙ c.laid-next-to.ensures),
-      c.set-next.ensures.keys ∙ c.loop-i.invariant.1,
-      c.set-next.ensures.values ∙ c.loop-i.invariant.2,
+          (ap (λ zs. get_or zs i 0) e ∙ get_or-set_same ls i to 0 lt ∙ c.laid_next-to.ensures),
+      c.set_next.ensures.keys ∙ c.loop-i.invariant.1,
+      c.set_next.ensures.values ∙ c.loop-i.invariant.2,
     )
 
 fits : (n : ℕ) → 18 ≤ n → n ≤ 65536 → fits_table n ≡ true

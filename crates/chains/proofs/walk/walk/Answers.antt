@@ -16,11 +16,11 @@ returns-then-at-eq0 g c =
       before = sym (c.loop-i.invariant.1 ∙ ap (before c.loop-i.before ms) e);
     }
 
-pub overflow-cast-at : goal.overflow-cast-at
-overflow-cast-at g c = omega (arith, c.loop-i.invariant.2)
+pub overflow_cast-at : goal.overflow_cast-at
+overflow_cast-at g c = omega (arith, c.loop-i.invariant.2)
 
-pub returns-then-has-key : goal.returns-then-has-key
-returns-then-has-key g c =
+pub returns-then-has_key : goal.returns-then-has_key
+returns-then-has_key g c =
     let t = table c.args.nodes.now in
     let ls = t.links in
     let ms = marks g.K.Key.alike c.args.k.now t.keys in
@@ -28,14 +28,14 @@ returns-then-has-key g c =
     let p = c.loop-i.before in
     let rest = run (length ls - (c.loop-i.i + 1)) ls (get_or ls at 0) in
     let l : c.loop-i.i < length ls = simp length-map c.loop-i-test.true in
-    let m = sym c.if-has-key.ensures in
+    let m = sym c.if-has_key.ensures in
     record {
       at = sym (c.loop-i.invariant.0 ∙ seek_turn _ _ ls ms at l c.if-at-eq0.false ∙ ap (λ (b : Bool). cond b at (seek ms rest)) m);
       before = sym (c.loop-i.invariant.1 ∙ before_turn _ _ ls ms p at l c.if-at-eq0.false ∙ ap (λ (b : Bool). cond b p (before at ms rest)) m);
     }
 
-pub overflow-cast-before : goal.overflow-cast-before
-overflow-cast-before g c = omega (arith, c.loop-i.invariant.2)
+pub overflow_cast-before : goal.overflow_cast-before
+overflow_cast-before g c = omega (arith, c.loop-i.invariant.2)
 
 pub loop-i-preserved : goal.loop-i-preserved
 loop-i-preserved g c =
@@ -47,11 +47,11 @@ loop-i-preserved g c =
     let f = length ls - (c.loop-i.i + 1) in
     let rest = run f ls (get_or ls at 0) in
     let l : c.loop-i.i < length ls = simp length-map c.loop-i-test.true in
-    let m = sym c.if-has-key.ensures in
-    let n = ap (run f ls) (sym c.next-of-at-in-loop-i.ensures) in (
+    let m = sym c.if-has_key.ensures in
+    let n = ap (run f ls) (sym c.next_of-at-in-loop-i.ensures) in (
       c.loop-i.invariant.0 ∙ seek_turn _ _ ls ms at l c.if-at-eq0.false ∙ ap (λ (b : Bool). cond b at (seek ms rest)) m ∙ ap (seek ms) n,
       c.loop-i.invariant.1 ∙ before_turn _ _ ls ms p at l c.if-at-eq0.false ∙ ap (λ (b : Bool). cond b p (before at ms rest)) m ∙ ap (before at ms) n,
-      c.next-of-at-in-loop-i.type-inv,
+      c.next_of-at-in-loop-i.type-inv,
     )
 
 pub returns : goal.returns

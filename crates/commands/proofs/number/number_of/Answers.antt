@@ -7,11 +7,11 @@ use Rattle.commands.proofs.number.number_of.Goals as goal
 pub returns-then-b-lt48 : goal.returns-then-b-lt48
 returns-then-b-lt48 c = sym (digit_none c.loop-i.n c.loop-i.i c.args.word.now (omega arith) (search rules)) ∙ c.loop-i.invariant.0
 
-pub overflow-mul-n : goal.overflow-mul-n
-overflow-mul-n c = let b = below_all c.loop-i.n c.loop-i.i c.loop-i.invariant.1 (omega arith) in omega arith
+pub overflow_mul-n : goal.overflow_mul-n
+overflow_mul-n c = let b = below_all c.loop-i.n c.loop-i.i c.loop-i.invariant.1 (omega arith) in omega arith
 
-pub overflow-add-n : goal.overflow-add-n
-overflow-add-n c = let b = below_all c.loop-i.n c.loop-i.i c.loop-i.invariant.1 (omega arith) in search rules
+pub overflow_add-n : goal.overflow_add-n
+overflow_add-n c = let b = below_all c.loop-i.n c.loop-i.i c.loop-i.invariant.1 (omega arith) in search rules
 
 pub loop-i-preserved : goal.loop-i-preserved
 loop-i-preserved c = (sym (digit_more c.loop-i.n c.loop-i.i c.args.word.now (omega arith) (search rules) (search rules)) ∙ c.loop-i.invariant.0, below_more c.loop-i.n c.loop-i.i _ c.loop-i.invariant.1 (search rules), omega arith)

@@ -20,16 +20,16 @@ pub returns-then-line-gt-LONGEST : goal.returns-then-line-gt-LONGEST
 returns-then-line-gt-LONGEST c =
     record { value = search rules; spelt = tt; accepted = λ x g. absurd (omega (arith, g.short)); first = opens_refused c.args.line.now _ (search rules) }
 
-pub returns-in-err-template : goal.returns-in-err-template
-returns-in-err-template c =
+pub returns-in_err-template : goal.returns-in_err-template
+returns-in_err-template c =
     let line = c.args.line.now in
-    let r = c.from-residual.result in
+    let r = c.from_residual.result in
     let read : template_read r ≡ opens line = search rules in
     record { value = read; spelt = told line r read; accepted = λ x g. read ∙ spelt_opens line x g; first = first line r read }
 
 pub returns : goal.returns
 returns c =
     let line = c.args.line.now in
-    let x = c.part-of.result.now in
+    let x = c.part_of.result.now in
     let read : Ok x ≡ opens line = search rules in
     record { value = read; spelt = opened line x (sym read); accepted = λ x g. read ∙ spelt_opens line x g; first = tt }

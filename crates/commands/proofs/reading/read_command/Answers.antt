@@ -21,16 +21,16 @@ pub returns-then-line-gt-LONGEST : goal.returns-then-line-gt-LONGEST
 returns-then-line-gt-LONGEST c =
     record { value = search rules; spelt = tt; accepted = λ x g. absurd (omega (arith, g.short)); first = reads_refused c.args.line.now _ (search rules) }
 
-pub returns-in-err-spans : goal.returns-in-err-spans
-returns-in-err-spans c =
+pub returns-in_err-spans : goal.returns-in_err-spans
+returns-in_err-spans c =
     let line = c.args.line.now in
-    let r = c.from-residual.result in
+    let r = c.from_residual.result in
     let read : said_read r ≡ reads line = search rules in
     record { value = read; spelt = told line r read; accepted = λ x g. read ∙ spelt_reads line x g; first = first line r read }
 
 pub returns : goal.returns
 returns c =
     let line = c.args.line.now in
-    let x = said c.cut-out.result in
+    let x = said c.cut_out.result in
     let read : Ok x ≡ reads line = search rules in
     record { value = read; spelt = reading line x (sym read); accepted = λ x g. read ∙ spelt_reads line x g; first = tt }

@@ -5,6 +5,6 @@ use Rattle.commands.proofs.reading.read_spans.Goals as goal
 
 pub returns : goal.returns
 returns c = record {
-  value = c.read-form.ensures.value ∙ by_head c.args.line.now c.in-ok-word.word c.in-Some.head c.in-ok-word.ensures.value (c.in-Some.ensures ∙ ap (pick heads) c.part-of.ensures);
-  within = c.read-form.ensures.within;
+  value = c.read_form.ensures.value ∙ by_head c.args.line.now c.in_ok-word.word c.in-Some.head c.in_ok-word.ensures.value (c.in-Some.ensures ∙ ap (pick heads) c.part_of.ensures);
+  within = c.read_form.ensures.within;
 }

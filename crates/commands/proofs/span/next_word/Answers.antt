@@ -4,12 +4,12 @@ use Rattle.commands.proofs.span.next_word.Goals as goal
 
 pub returns-then-to-from : goal.returns-then-to-from
 returns-then-to-from c = record {
-  value = empty_word c.args.line.now c.args.from c.piece-end-to.result (omega arith) c.piece-end-to.ensures.value (omega arith);
+  value = empty_word c.args.line.now c.args.from c.piece_end-to.result (omega arith) c.piece_end-to.ensures.value (omega arith);
   within = tt;
 }
 
 pub returns : goal.returns
 returns c = record {
-  value = full_word c.args.line.now c.args.from c.piece-end-to.result (omega arith) c.piece-end-to.ensures.value (omega arith);
-  within = (omega arith, c.piece-end-to.ensures.within (omega arith));
+  value = full_word c.args.line.now c.args.from c.piece_end-to.result (omega arith) c.piece_end-to.ensures.value (omega arith);
+  within = (omega arith, c.piece_end-to.ensures.within (omega arith));
 }

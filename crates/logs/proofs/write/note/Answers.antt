@@ -3,8 +3,8 @@ use borrow.Author.Rules.{scaled_Fits}
 use Rattle.std.proofs.lemmas.List.{set_past}
 use Rattle.logs.proofs.write.note.Goals as goal
 
-pub offset-bounds-entries-at : goal.offset-bounds-entries-at
-offset-bounds-entries-at g c = let h = c.if-at-entries.true in search scaled_Fits
+pub offset_bounds-entries-at : goal.offset_bounds-entries-at
+offset_bounds-entries-at g c = let h = c.if-at-entries.true in search scaled_Fits
 
 pub bounds-entries-at : goal.bounds-entries-at
 bounds-entries-at g c = c.if-at-entries.true

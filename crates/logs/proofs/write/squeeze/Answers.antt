@@ -9,24 +9,24 @@ use Rattle.logs.proofs.write.squeeze.Goals.{then-stays, else-stays}
 pub bounds-entries-i : goal.bounds-entries-i
 bounds-entries-i g c = omega (arith, c.end-stop.ensures, c.loop-i.auto.entries, c.loop-i-test.true)
 
-pub offset-bounds-entries-i : goal.offset-bounds-entries-i
-offset-bounds-entries-i g c =
+pub offset_bounds-entries-i : goal.offset_bounds-entries-i
+offset_bounds-entries-i g c =
     let h : c.loop-i.i < length c.args.entries.now = omega (arith, c.end-stop.ensures, c.loop-i-test.true) in
     search scaled_Fits
 
-pub overflow-add-i : goal.overflow-add-i
-overflow-add-i g c = record { fits = omega (arith, c.end-stop.type-inv, c.loop-i-test.true) }
+pub overflow_add-i : goal.overflow_add-i
+overflow_add-i g c = record { fits = omega (arith, c.end-stop.type-inv, c.loop-i-test.true) }
 
 pub bounds-entries-w : goal.bounds-entries-w
 bounds-entries-w g c = omega (arith, c.end-stop.ensures, c.loop-i.auto.entries, c.loop-i-test.true, c.loop-i.invariant.0)
 
-pub offset-bounds-entries-w : goal.offset-bounds-entries-w
-offset-bounds-entries-w g c =
+pub offset_bounds-entries-w : goal.offset_bounds-entries-w
+offset_bounds-entries-w g c =
     let h : c.loop-i.w < length c.args.entries.now = omega (arith, c.end-stop.ensures, c.loop-i-test.true, c.loop-i.invariant.0) in
     search scaled_Fits
 
-pub overflow-add-w : goal.overflow-add-w
-overflow-add-w g c = record { fits = omega (arith, c.end-stop.type-inv, c.loop-i-test.true, c.loop-i.invariant.0) }
+pub overflow_add-w : goal.overflow_add-w
+overflow_add-w g c = record { fits = omega (arith, c.end-stop.type-inv, c.loop-i-test.true, c.loop-i.invariant.0) }
 
 pub loop-i-preserved : goal.loop-i-preserved
 loop-i-preserved g c =

@@ -11,14 +11,14 @@ grows t b i h k = rw (add-one, pow-suc) (mul-le-mul h k)
 few : (t i : ℕ) → t ≤ 29 ^ i → i ≤ 8 → t ≤ 29 ^ 8
 few t i h k = let up : 29 ^ i ≤ 29 ^ 8 = pow-le-pow_right {n = 29} (omega arith) k in omega arith
 
-bounded : (c : goal.After-base-of-total) → c.loop-m.total * c.base-of-total.result ≤ 29 ^ (c.loop-m.m-index + 1)
+bounded : (c : goal.After-base_of-total) → c.loop-m.total * c.base_of-total.result ≤ 29 ^ (c.loop-m.m-index + 1)
 bounded c =
-    let small : c.base-of-total.result ≤ 29 = omega (arith, c.base-of-total.ensures, base_small (get_or c.args.mask.now c.loop-m.m-index 0)) in
-    grows c.loop-m.total c.base-of-total.result c.loop-m.m-index c.loop-m.invariant.1 small
+    let small : c.base_of-total.result ≤ 29 = omega (arith, c.base_of-total.ensures, base_small (get_or c.args.mask.now c.loop-m.m-index 0)) in
+    grows c.loop-m.total c.base_of-total.result c.loop-m.m-index c.loop-m.invariant.1 small
 
-pub overflow-mul-total : goal.overflow-mul-total
-overflow-mul-total c =
-    let t = c.loop-m.total * c.base-of-total.result in
+pub overflow_mul-total : goal.overflow_mul-total
+overflow_mul-total c =
+    let t = c.loop-m.total * c.base_of-total.result in
     let small : t ≤ 29 ^ 8 = few t (c.loop-m.m-index + 1) (bounded c) (omega arith) in
     omega arith
 
@@ -27,10 +27,10 @@ loop-m-preserved c =
     let i = c.loop-m.m-index in
     let mask = c.args.mask.now in
     let t = c.loop-m.total in
-    let b = c.base-of-total.result in
+    let b = c.base_of-total.result in
     let rest = total (drop (i + 1) mask) in
     let step : total (drop i mask) ≡ base (get_or mask i 0) * rest = at_drop_more total mask i 0 (omega arith) in
-    let here : total (drop i mask) ≡ b * rest = step ∙ ap (λ n. n * rest) (sym c.base-of-total.ensures) in
+    let here : total (drop i mask) ≡ b * rest = step ∙ ap (λ n. n * rest) (sym c.base_of-total.ensures) in
     (mul_assoc t b rest ∙ (ap (λ n. t * n) (sym here) ∙ c.loop-m.invariant.0), bounded c, c.loop-m.invariant.2)
 
 pub returns : goal.returns

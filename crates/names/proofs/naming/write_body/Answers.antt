@@ -18,6 +18,6 @@ returns c =
     let p = c.args.prefix.now in
     let s = digits c.args.mask.now c.args.n in
     let long : length s ≡ length c.args.mask.now = length_digits c.args.mask.now c.args.n in
-    let copied : c.copy-from-slice.new.self ≡ p = c.copy-from-slice.ensures.after in
-    ap (λ k. take (length p + k) c.write-digits.new.out) (sym long)
-    ∙ (ap (take (length p + length s)) c.write-digits.ensures ∙ behind p c.copy-from-slice.new.self _ s copied)
+    let copied : c.copy_from_slice.new.self ≡ p = c.copy_from_slice.ensures.after in
+    ap (λ k. take (length p + k) c.write_digits.new.out) (sym long)
+    ∙ (ap (take (length p + length s)) c.write_digits.ensures ∙ behind p c.copy_from_slice.new.self _ s copied)

@@ -6,7 +6,7 @@ pub returns-then-i-prefix : goal.returns-then-i-prefix
 returns-then-i-prefix c = sym (in_prefix c.args.prefix.now c.args.mask.now true c.args.i (omega arith))
 
 pub returns-then-i-prefix-2 : goal.returns-then-i-prefix-2
-returns-then-i-prefix-2 c = c.slot-of.ensures ∙ sym (in_mask c.args.prefix.now c.args.mask.now true c.args.i (omega arith) (omega arith))
+returns-then-i-prefix-2 c = c.slot_of.ensures ∙ sym (in_mask c.args.prefix.now c.args.mask.now true c.args.i (omega arith) (omega arith))
 
 pub returns-else-i-prefix-2 : goal.returns-else-i-prefix-2
 returns-else-i-prefix-2 c = sym (past_mask c.args.prefix.now c.args.mask.now true c.args.i (omega arith) (omega arith))

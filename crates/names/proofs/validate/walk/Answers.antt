@@ -58,10 +58,10 @@ returns-in-None c =
     let t = c.args.text.now in
     let i = c.loop-i.i in
     let n = c.loop-i.number in
-    let s = c.slot-at.result in
+    let s = c.slot_at.result in
     let b = get_or t i 0 in
     let bad : fits s b ≡ false = none_from (fits s b) (counted s b n) (sym c.in-None.ensures) in
-    let step = stepped p m t i n s c.requires.0 c.loop-i-test.true c.slot-at.ensures in
+    let step = stepped p m t i n s c.requires.0 c.loop-i-test.true c.slot_at.ensures in
     let refused : walked i n (drop i (slots (with_parts p m true))) (drop i t) ≡ Err (Byte i) = step ∙ cond-false (fits s b) (walked (i + 1) (counted s b n) (drop (i + 1) (slots (with_parts p m true))) (drop (i + 1) t)) (Err (Byte i)) bad in
     sym refused ∙ c.loop-i.invariant.0
 
@@ -72,15 +72,15 @@ loop-i-preserved c =
     let t = c.args.text.now in
     let i = c.loop-i.i in
     let n = c.loop-i.number in
-    let s = c.slot-at.result in
+    let s = c.slot_at.result in
     let b = get_or t i 0 in
     let ss = slots (with_parts p m true) in
     let good = some_from (fits s b) (counted s b n) c.in-Some.n (sym c.in-Some.ensures) in
-    let step = stepped p m t i n s c.requires.0 c.loop-i-test.true c.slot-at.ensures in
+    let step = stepped p m t i n s c.requires.0 c.loop-i-test.true c.slot_at.ensures in
     let taken : walked i n (drop i ss) (drop i t) ≡ walked (i + 1) c.in-Some.n (drop (i + 1) ss) (drop (i + 1) t) =
     step ∙ (cond-true (fits s b) (walked (i + 1) (counted s b n) (drop (i + 1) ss) (drop (i + 1) t)) (Err (Byte i)) good.0 ∙ ap (λ k. walked (i + 1) k (drop (i + 1) ss) (drop (i + 1) t)) good.1) in
     let small : counted (get_or ss i Closing) b n < 29 ^ (i + 1 - length p) = grows p m i b n c.loop-i.invariant.1 in
-    let same : counted (get_or ss i Closing) b n ≡ c.in-Some.n = ap (λ u. counted u b n) (sym c.slot-at.ensures) ∙ good.1 in
+    let same : counted (get_or ss i Closing) b n ≡ c.in-Some.n = ap (λ u. counted u b n) (sym c.slot_at.ensures) ∙ good.1 in
     (sym taken ∙ c.loop-i.invariant.0, subst (λ (k : ℕ). k < 29 ^ (i + 1 - length p)) same small, c.requires.0, c.requires.1)
 
 pub returns : goal.returns

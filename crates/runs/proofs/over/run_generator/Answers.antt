@@ -15,13 +15,13 @@ use Rattle.runs.proofs.over.run_generator.Goals as goal
 pub returns : goal.returns
 returns g c =
     let made = c.new-source.ensures.made in
-    let ran = c.run-in.ensures in
+    let ran = c.run_in.ensures in
     let cap = g.T.Store.capacity c.args.texts in
-    let calls = asks (take c.run-in.result.1 c.args.calls.now) in
+    let calls = asks (take c.run_in.result.1 c.args.calls.now) in
     record {
       served = ran.served;
-      answers = λ k e. subst (λ (z : Stock). c.run-in.new.out ≡ answers (fresh z cap) calls ++ drop c.run-in.result.1 c.args.out.now) made (ran.answers k e);
-      after = λ k e. subst (λ (z : Stock). (meaning (gen_stock g.C.Chooser.pick) g.T.Store.pairs g.T.Store.capacity c.run-in.result.0 ≡ final (fresh z cap) calls) × g.T.Store.sound c.run-in.result.0.texts) made (ran.after k e);
-      law = λ k e. subst (λ (z : Stock). Law z (new z) (told z.named calls c.run-in.new.out)) made (ran.law k e);
+      answers = λ k e. subst (λ (z : Stock). c.run_in.new.out ≡ answers (fresh z cap) calls ++ drop c.run_in.result.1 c.args.out.now) made (ran.answers k e);
+      after = λ k e. subst (λ (z : Stock). (meaning (gen_stock g.C.Chooser.pick) g.T.Store.pairs g.T.Store.capacity c.run_in.result.0 ≡ final (fresh z cap) calls) × g.T.Store.sound c.run_in.result.0.texts) made (ran.after k e);
+      law = λ k e. subst (λ (z : Stock). Law z (new z) (told z.named calls c.run_in.new.out)) made (ran.law k e);
       whole = whole c.args.template (new_ahead (total_of c.args.template) (g.C.Chooser.pick c.args.chooser)) (λ n. ap (λ (z : Stock). count n z.ahead) (sym made) ∙ c.new-source.ensures.each n);
     }

@@ -20,7 +20,7 @@ loop-i-preserved g c = (
       (c.serve-a.ensures.after going.sound going.store)
       (c.serve-a.ensures.answer going.sound going.store)
       (c.serve-a.ensures.store going.store)
-      c.push-reserved.ensures.items
+      c.push_reserved.ensures.items
       going,
 )
 

@@ -15,9 +15,9 @@ loop-from-preserved g c =
     let line = c.line-reply.ensures in
     goes_on (g.T.Store.sound c.loop-from.register.texts) (g.T.Store.sound c.line-reply.new.register.texts) (g.U.Store.sound c.loop-from.tallies) (g.U.Store.sound c.line-reply.new.tallies)
     (at c.args.register.now c.args.tallies.now c.args.session) (at c.loop-from.register c.loop-from.tallies c.loop-from.session) (at c.line-reply.new.register c.line-reply.new.tallies c.line-reply.result.session)
-    c.args.input.now c.args.start c.loop-from.from c.piece-end-to.result c.args.out.now c.args.fill c.loop-from.out c.loop-from.at c.line-reply.new.out c.line-reply.result
-    going c.loop-from-test.true (c.piece-end-to.ensures.within (omega arith)) (c.piece-end-to.ensures.cut c.loop-from-test.true)
-    (take (c.piece-end-to.result - c.loop-from.from) (drop c.loop-from.from c.args.input.now)) refl
+    c.args.input.now c.args.start c.loop-from.from c.piece_end-to.result c.args.out.now c.args.fill c.loop-from.out c.loop-from.at c.line-reply.new.out c.line-reply.result
+    going c.loop-from-test.true (c.piece_end-to.ensures.within (omega arith)) (c.piece_end-to.ensures.cut c.loop-from-test.true)
+    (take (c.piece_end-to.result - c.loop-from.from) (drop c.loop-from.from c.args.input.now)) refl
     (line.replied going.sound going.stored going.tallied) (line.brief going.sound going.stored)
     (line.sound going.sound going.stored) (line.store going.stored) (line.tallies going.tallied) c.line-reply.auto.out
 

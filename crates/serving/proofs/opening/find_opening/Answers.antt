@@ -18,7 +18,7 @@ returns-in-Ok g c =
     let told = c.in-Ok.ensures in
     record {
       found = opens_here (g.U.Store.sound c.loop-from.tallies) (g.U.Store.sound c.opening.new.tallies) (at c.args.tallies.now 0) (at c.loop-from.tallies c.loop-from.session.lines) (tallies_in (g.U.Store.pairs c.opening.new.tallies) (g.U.Store.capacity c.opening.new.tallies))
-          c.args.input.now c.loop-from.from c.piece-end-to.result c.args.out.now c.loop-from.out c.loop-from.at c.opening.new.out going c.loop-from-test.true (c.piece-end-to.ensures.within (omega arith)) (c.piece-end-to.ensures.cut c.loop-from-test.true) told.brief c.opening.auto.out
+          c.args.input.now c.loop-from.from c.piece_end-to.result c.args.out.now c.loop-from.out c.loop-from.at c.opening.new.out going c.loop-from-test.true (c.piece_end-to.ensures.within (omega arith)) (c.piece_end-to.ensures.cut c.loop-from-test.true) told.brief c.opening.auto.out
           c.in-Ok.entered (told.led going.tallied);
       tallies = told.sound going.tallied;
     }
@@ -29,7 +29,7 @@ loop-from-preserved g c =
     let going = c.loop-from.invariant in
     let told = c.in-Err.ensures in
     goes_on (g.U.Store.sound c.loop-from.tallies) (g.U.Store.sound c.opening.new.tallies) (at c.args.tallies.now 0) (at c.loop-from.tallies c.loop-from.session.lines) (tallies_in (g.U.Store.pairs c.opening.new.tallies) (g.U.Store.capacity c.opening.new.tallies))
-    c.args.input.now c.loop-from.from c.piece-end-to.result c.args.out.now c.loop-from.out c.loop-from.at c.opening.new.out going c.loop-from-test.true (c.piece-end-to.ensures.within (omega arith)) (c.piece-end-to.ensures.cut c.loop-from-test.true) told.brief c.opening.auto.out
+    c.args.input.now c.loop-from.from c.piece_end-to.result c.args.out.now c.loop-from.out c.loop-from.at c.opening.new.out going c.loop-from-test.true (c.piece_end-to.ensures.within (omega arith)) (c.piece_end-to.ensures.cut c.loop-from-test.true) told.brief c.opening.auto.out
     c.in-Err.away (told.led going.tallied) (told.sound going.tallied)
 
 pub returns : goal.returns

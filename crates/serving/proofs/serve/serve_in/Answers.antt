@@ -12,10 +12,10 @@ returns-then-input-gt-LONGEST c =
     let input = c.args.input.now in
     let out = c.args.out.now in
     let long : 32768 < length input = c.if-input-gt-LONGEST.true in
-    let told = c.write-fault.ensures in
+    let told = c.write_fault.ensures in
     let room = c.if-out-lt-FREE.false in
-    let end : c.write-fault.result < length out = omega (arith, put_whole out too_long 0 c.write-fault.new.out c.write-fault.result (omega (arith, told.brief)) told.text, told.brief) in
-    let all = whole out too_long c.write-fault.new.out c.write-fault.result told.text end in
+    let end : c.write_fault.result < length out = omega (arith, put_whole out too_long 0 c.write_fault.new.out c.write_fault.result (omega (arith, told.brief)) told.text, told.brief) in
+    let all = whole out too_long c.write_fault.new.out c.write_fault.result told.text end in
     let same = report_long input long in
     record {
       answer = ap fine (all.0 ∙ ap length same) ∙ answered input out (omega (arith, needed_long input long));
@@ -28,10 +28,10 @@ returns c =
     let fine : ℕ → Result ℕ CommandFault = λ n. Ok n in
     let input = c.args.input.now in
     let out = c.args.out.now in
-    let told = c.serve-lines.ensures in
-    let many = c.count-lines.ensures.value in
+    let told = c.serve_lines.ensures in
+    let many = c.count_lines.ensures.value in
     let goal = needed_short input c.if-input-gt-LONGEST.false in
-    let all = whole out (session_text unread (pieces 10 input)) c.serve-lines.new.out c.serve-lines.result told.text (omega (arith, told.whole, c.serve-lines.auto.out)) in
+    let all = whole out (session_text unread (pieces 10 input)) c.serve_lines.new.out c.serve_lines.result told.text (omega (arith, told.whole, c.serve_lines.auto.out)) in
     let same = report_short input c.if-input-gt-LONGEST.false in
     record {
       answer = ap fine (all.0 ∙ ap length same) ∙ answered input out (omega (arith, goal, many));

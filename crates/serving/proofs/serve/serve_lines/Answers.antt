@@ -16,12 +16,12 @@ use Rattle.serving.specs.Ruling.{RuledBy}
 use Rattle.serving.specs.Serving.{awaited, session_text, unread}
 use Rattle.serving.proofs.serve.serve_lines.Goals as goal
 
-pub serve-session-requires : goal.serve-session-requires
-serve-session-requires c =
-    let long : length c.as-mut-slice-records.result.now ≡ 529 = c.as-mut-slice-records.ensures.len ∙ c.args.memory.table in
+pub serve_session-requires : goal.serve_session-requires
+serve_session-requires c =
+    let long : length c.as_mut_slice-records.result.now ≡ 529 = c.as_mut_slice-records.ensures.len ∙ c.args.memory.table in
     let formatted : c.format.result ≡ Ok tt = c.format.ensures.answer ∙ ap (λ (n : ℕ). cond {A = Result (Unit {0}) StoreFault} (fits_table n) (Ok tt) (Err Length)) long in
     let same = sym c.over-texts.ensures in
-    let many : length c.as-mut-slice.result.now ≡ 64 = c.as-mut-slice.ensures.len ∙ c.args.memory.log in
+    let many : length c.as_mut_slice.result.now ≡ 64 = c.as_mut_slice.ensures.len ∙ c.args.memory.log in
     record {
       store = subst (λ (ns : List (Node TextKey Text)). Sound same_key key_hash (table ns)) same (c.format.ensures.sound formatted);
       empty = subst (λ (ns : List (Node TextKey Text)). pairs ns ≡ []) same (c.format.ensures.empty formatted);
@@ -32,14 +32,14 @@ serve-session-requires c =
 
 pub returns : goal.returns
 returns c =
-    let many : length c.as-mut-slice.result.now ≡ 64 = c.as-mut-slice.ensures.len ∙ c.args.memory.log in
+    let many : length c.as_mut_slice.result.now ≡ 64 = c.as_mut_slice.ensures.len ∙ c.args.memory.log in
     let empty = c.over-tallies.ensures.empty in
     let places : length c.over-tallies.result.entries.now - 1 ≡ 63 = ap (λ n. n - 1) (ap length c.over-tallies.ensures.entries ∙ many) in
     let ls = pieces 10 c.args.input.now in
     let same : record { tallies = tallies_in (logs.pairs same_tally (logs.book c.over-tallies.result.entries.now c.over-tallies.result.fill)) (length c.over-tallies.result.entries.now - 1); lines = 0 } ≡ unread =
     λ j. record { tallies = tallies_in (empty j) (places j); lines = 0 } in
     record {
-      text = subst (λ (d : NewDesk). Wrote c.args.out.now 0 (session_text d ls) c.serve-session.new.out c.serve-session.result) same c.serve-session.ensures.text;
-      whole = c.serve-session.ensures.whole;
-      ruled = subst (λ (d : NewDesk). RuledBy (awaited d ls) (awaited d ls).form) same c.serve-session.ensures.ruled;
+      text = subst (λ (d : NewDesk). Wrote c.args.out.now 0 (session_text d ls) c.serve_session.new.out c.serve_session.result) same c.serve_session.ensures.text;
+      whole = c.serve_session.ensures.whole;
+      ruled = subst (λ (d : NewDesk). RuledBy (awaited d ls) (awaited d ls).form) same c.serve_session.ensures.ruled;
     }

@@ -33,7 +33,7 @@ returns g c =
     let machine = c.open-register.ensures.fresh c.requires.empty ∙ ap₂ (λ (s : Stock) (n : ℕ). fresh s n) source c.requires.places in
     let begun = at c.open-register.result c.args.tallies.now c.args.entered.session in
     let same : begun ≡ open_desk d f = λ j. record { machine = machine j; tallies = d.tallies; lines = d.lines; minted = c.requires.fresh j } in
-    let heard = c.answer-lines-heard.ensures in
+    let heard = c.answer_lines-heard.ensures in
     let closed = c.in-Ok.ensures.closes heard.tallies in
     let told : lines_text begun ls ++ closing (lines_desk begun ls).tallies (lines_desk begun ls).minted ≡ open_text (open_desk d f) ls = ap (λ (x : Desk). open_text x ls) same in
     record {

@@ -16,12 +16,12 @@ returns-in-Opening g c =
     let e = c.in-Opening.entered in
     let f = form e.template in
     let rest = pieces 10 (drop c.in-Opening.from c.args.input.now) in
-    let served = c.serve-open.ensures in
-    let d : NewDesk = at c.find-opening.new.tallies e.session.lines in
+    let served = c.serve_open.ensures in
+    let d : NewDesk = at c.find_opening.new.tallies e.session.lines in
     let told : a.text ++ open_text (open_desk d f) rest ≡ by_form a a.form =
     ap₂ (λ (x : NewDesk) (ls : List (List ℕ)). a.text ++ open_text (open_desk x f) ls) (sym found.1) (sym found.3) ∙ ap (by_form a) (sym found.0) in
     record {
-      text = subst (λ (t : List ℕ). Wrote c.args.out.now 0 t c.serve-open.new.out c.serve-open.result) told (join found.4 served.text);
+      text = subst (λ (t : List ℕ). Wrote c.args.out.now 0 t c.serve_open.new.out c.serve_open.result) told (join found.4 served.text);
       whole = served.whole;
       ruled = subst (RuledBy a) (sym found.0) (subst (λ (x : NewDesk). Ruled x f a.rest) (sym found.1) (subst (Ruled d f) (sym found.3) served.ruled));
     }

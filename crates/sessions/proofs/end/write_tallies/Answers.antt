@@ -7,7 +7,7 @@ loop-number-init g c = λ k. begins (tallies_in (g.U.Store.pairs c.args.tallies.
 
 pub loop-number-preserved : goal.loop-number-preserved
 loop-number-preserved g c = λ k.
-    goes_on (tallies_in (g.U.Store.pairs c.args.tallies.now) (g.U.Store.capacity c.args.tallies.now)) c.args.from c.args.to c.loop-number.number c.args.out.now c.args.fill c.loop-number.out c.loop-number.at c.write-tally-at.new.out c.write-tally-at.result c.loop-number-test.true (c.loop-number.invariant k) c.loop-number.auto.number (c.write-tally-at.ensures.text k) (c.write-tally-at.ensures.brief k)
+    goes_on (tallies_in (g.U.Store.pairs c.args.tallies.now) (g.U.Store.capacity c.args.tallies.now)) c.args.from c.args.to c.loop-number.number c.args.out.now c.args.fill c.loop-number.out c.loop-number.at c.write_tally-at.new.out c.write_tally-at.result c.loop-number-test.true (c.loop-number.invariant k) c.loop-number.auto.number (c.write_tally-at.ensures.text k) (c.write_tally-at.ensures.brief k)
 
 pub returns : goal.returns
 returns g c =

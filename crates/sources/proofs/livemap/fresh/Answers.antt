@@ -5,8 +5,8 @@ use Rattle.sources.proofs.livemap.fresh.Goals as goal
 
 pub returns : goal.returns
 returns c =
-    let four = filled_last 256 c.saturating-sub-4.result c.lowest-5.result (omega arith) c.lowest-5.ensures in
-    let three = filled 192 c.saturating-sub-3.result c.saturating-sub-4.result c.lowest-4.result _ c.lowest-4.ensures four (omega arith) in
-    let two = filled 128 c.saturating-sub-2.result c.saturating-sub-3.result c.lowest-3.result _ c.lowest-3.ensures three (omega arith) in
-    let one = filled 64 c.saturating-sub.result c.saturating-sub-2.result c.lowest-2.result _ c.lowest-2.ensures two (omega arith) in
-    filled 0 c.args.live c.saturating-sub.result c.lowest.result _ c.lowest.ensures one (omega arith)
+    let four = filled_last 256 c.saturating_sub-4.result c.lowest-5.result (omega arith) c.lowest-5.ensures in
+    let three = filled 192 c.saturating_sub-3.result c.saturating_sub-4.result c.lowest-4.result _ c.lowest-4.ensures four (omega arith) in
+    let two = filled 128 c.saturating_sub-2.result c.saturating_sub-3.result c.lowest-3.result _ c.lowest-3.ensures three (omega arith) in
+    let one = filled 64 c.saturating_sub.result c.saturating_sub-2.result c.lowest-2.result _ c.lowest-2.ensures two (omega arith) in
+    filled 0 c.args.live c.saturating_sub.result c.lowest.result _ c.lowest.ensures one (omega arith)

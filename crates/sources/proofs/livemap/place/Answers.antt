@@ -8,8 +8,8 @@ use Rattle.sources.proofs.livemap.place.Goals as goal
 pub loop-init : goal.loop-init
 loop-init c = (c.ranges.word.fits, refl)
 
-pub overflow-sub-left : goal.overflow-sub-left
-overflow-sub-left c =
+pub overflow_sub-left : goal.overflow_sub-left
+overflow_sub-left c =
     let l : c.loop.counter < length (bits_from 64 c.args.base c.args.word) = omega arith in
     (cleared c.args.base c.loop.left c.loop.counter (bits_from 64 c.args.base c.args.word) c.loop.invariant.0 l c.loop.invariant.1).0
 

@@ -12,11 +12,11 @@ returns g c =
     let L : Lawful al bk = record { reflexive = g.met.K.Key.reflexive; symmetric = g.met.K.Key.symmetric; transitive = g.met.K.Key.transitive; small = g.met.K.Key.small; shared = g.met.K.Key.shared } in
     let r = c.args.self.now.nodes in
     let ns = r.now in
-    let ns' = c.drop-in.new.nodes in
+    let ns' = c.drop_in.new.nodes in
     let k = c.args.k.now in
-    let b = c.drop-in.result in
-    let a = c.drop-in.ensures.answer in
-    let e = c.drop-in.ensures.after in
+    let b = c.drop_in.result in
+    let a = c.drop_in.ensures.answer in
+    let e = c.drop_in.ensures.after in
     let F : List (Node g.row.K.Denot g.row.V.Denot) → Chain g.row.K.Denot g.row.V.Denot = λ ms. record { nodes = record { ref_ptr = r.ptr; ghost_name = r.name; now = ms } } in
     record {
       sound = drop_stays al bk L ns ns' k b a e;

@@ -12,6 +12,6 @@ returns g c =
     let k = c.args.k.now in
     record {
       kept = kept al bk L ns;
-      answer = λ s. c.get-in.ensures.answer ∙ sym (ap is_some (look_pairs al bk L ns s k));
-      place = λ s. c.get-in.ensures.place ∙ sym (ap (λ o. unwrap_or o c.args.place.now) (look_pairs al bk L ns s k));
+      answer = λ s. c.get_in.ensures.answer ∙ sym (ap is_some (look_pairs al bk L ns s k));
+      place = λ s. c.get_in.ensures.place ∙ sym (ap (λ o. unwrap_or o c.args.place.now) (look_pairs al bk L ns s k));
     }

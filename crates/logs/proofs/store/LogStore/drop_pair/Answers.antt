@@ -12,11 +12,11 @@ returns g c =
     let L : Lawful al bk = record { reflexive = g.met.K.Key.reflexive; symmetric = g.met.K.Key.symmetric; transitive = g.met.K.Key.transitive; small = g.met.K.Key.small; shared = g.met.K.Key.shared } in
     let r = c.args.self.now.entries in
     let b = book r.now c.args.self.now.fill in
-    let b' = book c.drop-in-answer.new.entries c.drop-in-answer.new.fill in
+    let b' = book c.drop_in-answer.new.entries c.drop_in-answer.new.fill in
     let k = c.args.k.now in
-    let t = c.drop-in-answer.result in
-    let a = c.drop-in-answer.ensures.answer in
-    let e = c.drop-in-answer.ensures.after in
+    let t = c.drop_in-answer.result in
+    let a = c.drop_in-answer.ensures.answer in
+    let e = c.drop_in-answer.ensures.after in
     let F : Book g.row.K.Denot g.row.V.Denot → Log g.row.K.Denot g.row.V.Denot = λ x. record { entries = record { ref_ptr = r.ptr; ghost_name = r.name; now = x.entries }; fill = record { used = x.used; count = x.count } } in
     record {
       sound = drop_stays al bk L b b' k t a e;

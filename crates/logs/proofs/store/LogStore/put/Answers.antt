@@ -13,15 +13,15 @@ returns g c =
     let L : Lawful al bk = record { reflexive = g.met.K.Key.reflexive; symmetric = g.met.K.Key.symmetric; transitive = g.met.K.Key.transitive; small = g.met.K.Key.small; shared = g.met.K.Key.shared } in
     let r = c.args.self.now.entries in
     let b = book r.now c.args.self.now.fill in
-    let b' = book c.put-in-answer.new.entries c.put-in-answer.new.fill in
+    let b' = book c.put_in-answer.new.entries c.put_in-answer.new.fill in
     let k = c.args.k in
     let v = c.args.v in
-    let e = c.put-in-answer.ensures.after in
+    let e = c.put_in-answer.ensures.after in
     let F : Book g.row.K.Denot g.row.V.Denot → Log g.row.K.Denot g.row.V.Denot = λ x. record { entries = record { ref_ptr = r.ptr; ghost_name = r.name; now = x.entries }; fill = record { used = x.used; count = x.count } } in
     record {
       sound = put_stays al bk L b b' k v e;
       capacity = put_room al bk L b b' k v e;
-      answer = λ s. c.put-in-answer.ensures.answer ∙ ap (λ (t : Bool). cond t (Err Full) (Ok tt)) (sym (full_is al bk L b s k));
+      answer = λ s. c.put_in-answer.ensures.answer ∙ ap (λ (t : Bool). cond t (Err Full) (Ok tt)) (sym (full_is al bk L b s k));
       refusal = λ s f. ap F (put_refused al bk L b b' k v e s f);
       found = put_found al bk L b b' k v e;
       many = put_many al bk L b b' k v e;

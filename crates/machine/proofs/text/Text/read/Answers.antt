@@ -13,4 +13,4 @@ whole t u rest e l =
 
 -- src/text/calls.rt:12:5
 pub returns : goal.returns
-returns c = whole c.args.bytes.now c.copy-from-slice.new.self _ c.copy-from-slice.ensures.after c.if-len-gt40.false
+returns c = whole c.args.bytes.now c.copy_from_slice.new.self _ c.copy_from_slice.ensures.after c.if-len-gt40.false

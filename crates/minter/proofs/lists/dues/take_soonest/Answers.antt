@@ -14,8 +14,8 @@ returns-then-at-len c =
     let t = c.args.until in
     let xs = vec_items c.args.dues.now in
     let i = c.soonest-at.result in
-    let at : i ≡ (soonest t xs).0 = c.soonest-at.ensures ∙ ap (λ (ys : List Due). (soonest t ys).0) c.as-slice.ensures.value in
-    let w : i < length xs = omega (arith, ap {B = ℕ} length c.as-slice.ensures.value, c.as-slice.ensures.len) in
+    let at : i ≡ (soonest t xs).0 = c.soonest-at.ensures ∙ ap (λ (ys : List Due). (soonest t ys).0) c.as_slice.ensures.value in
+    let w : i < length xs = omega (arith, ap {B = ℕ} length c.as_slice.ensures.value, c.as_slice.ensures.len) in
     let k = soonest_some t xs (omega arith) in
     let d : get_or xs (soonest t xs).0 (record { number = 0; second = 0 }) ≡ c.remove-due.result = ap (λ (j : ℕ). get_or xs j (record { number = 0; second = 0 })) (sym at) ∙ sym (get_or_read xs i c.remove-due.result w c.remove-due.ensures.value (record { number = 0; second = 0 })) in
     let r = c.remove-due.ensures.items ∙ ap (remove xs) at in
@@ -34,8 +34,8 @@ returns-else-at-len c =
     let t = c.args.until in
     let xs = vec_items c.args.dues.now in
     let i = c.soonest-at.result in
-    let at : i ≡ (soonest t xs).0 = c.soonest-at.ensures ∙ ap (λ (ys : List Due). (soonest t ys).0) c.as-slice.ensures.value in
-    let w : length xs ≤ i = omega (arith, ap {B = ℕ} length c.as-slice.ensures.value, c.as-slice.ensures.len) in
+    let at : i ≡ (soonest t xs).0 = c.soonest-at.ensures ∙ ap (λ (ys : List Due). (soonest t ys).0) c.as_slice.ensures.value in
+    let w : length xs ≤ i = omega (arith, ap {B = ℕ} length c.as_slice.ensures.value, c.as_slice.ensures.len) in
     let k = soonest_none t xs (omega arith) in
     record {
       answer = sym (ap (λ (ys : List Due). first (numbers (in_order ys))) k.0);

@@ -8,5 +8,5 @@ returns g c =
     let s = c.args.self.now in
     let k = g.S.Source.stock s.source in
     let l = g.S.Source.lawful s.source in
-    ap₂ (λ (a b : ℕ). eqb a b) c.held-ahead.ensures c.left.ensures
+    ap₂ (λ (a b : ℕ). eqb a b) c.held_ahead.ensures c.left.ensures
     ∙ all_stopped (λ x. is_ahead (k.stands x)) (vec_items s.held) k.ahead l.listed s.held_once l.once

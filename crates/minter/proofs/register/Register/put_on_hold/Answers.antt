@@ -11,8 +11,8 @@ add-requires g c =
     let len = s.held.ok.0 in
     omega (arith, s.held_room)
 
-pub invariant-of-self : goal.invariant-of-self
-invariant-of-self g c =
+pub invariant_of-self : goal.invariant_of-self
+invariant_of-self g c =
     let s = c.args.self.now in
     let once = added_once c.args.n (vec_items s.aside) (vec_items s.held) s.held_once s.hold_places c.requires.new in
     let few = added_few c.args.n (vec_items s.aside) (vec_items s.held) s.held_once s.hold_places c.requires.place in

@@ -4,22 +4,22 @@ use Rattle.machine.specs.Machine.{outside}
 use Rattle.minter.proofs.Rooms.{aside_room, aside_few}
 use Rattle.minter.proofs.register.Register.set_aside.Goals as goal
 
-pub push-reserved-requires : goal.push-reserved-requires
-push-reserved-requires g c =
+pub push_reserved-requires : goal.push_reserved-requires
+push_reserved-requires g c =
     let s = c.args.self.now in
-    let on : has c.args.n (vec_items s.held) ≡ true = ap (has c.args.n) (sym c.as-slice.ensures.value) ∙ sym c.if-contains.ensures in
-    let out : has c.args.n (vec_items s.aside) ≡ false = ap (has c.args.n) (sym c.as-slice-then-contains.ensures.value) ∙ sym c.if-not-contains.ensures in
+    let on : has c.args.n (vec_items s.held) ≡ true = ap (has c.args.n) (sym c.as_slice.ensures.value) ∙ sym c.if-contains.ensures in
+    let out : has c.args.n (vec_items s.aside) ≡ false = ap (has c.args.n) (sym c.as_slice-then-contains.ensures.value) ∙ sym c.if-not-contains.ensures in
     let r = aside_room c.args.n (vec_items s.aside) (vec_items s.held) s.hold_places out on in
     let l = s.aside.ok.0 in
     omega (arith, s.aside_room)
 
-pub invariant-of-self : goal.invariant-of-self
-invariant-of-self g c =
+pub invariant_of-self : goal.invariant_of-self
+invariant_of-self g c =
     let s = c.args.self.now in
-    let on : has c.args.n (vec_items s.held) ≡ true = ap (has c.args.n) (sym c.as-slice.ensures.value) ∙ sym c.if-contains.ensures in
-    let out : has c.args.n (vec_items s.aside) ≡ false = ap (has c.args.n) (sym c.as-slice-then-contains.ensures.value) ∙ sym c.if-not-contains.ensures in
+    let on : has c.args.n (vec_items s.held) ≡ true = ap (has c.args.n) (sym c.as_slice.ensures.value) ∙ sym c.if-contains.ensures in
+    let out : has c.args.n (vec_items s.aside) ≡ false = ap (has c.args.n) (sym c.as_slice-then-contains.ensures.value) ∙ sym c.if-not-contains.ensures in
     let few = aside_few c.args.n (vec_items s.aside) (vec_items s.held) s.hold_places out on in
-    let e = c.push-reserved.ensures in (
+    let e = c.push_reserved.ensures in (
       s.early,
       (
         omega (arith, e.capacity, s.aside_room),

@@ -12,10 +12,10 @@ pub returns-then-at-len : goal.returns-then-at-len
 returns-then-at-len g c =
     let m : Machine = meaning g.S.Source.stock g.T.Store.pairs g.T.Store.capacity c.args.self.now in
     let p : ℕ → Bool = λ x. has x m.held in
-    let at : c.first-free-at.result ≡ length (front p m.aside) = c.first-free-at.ensures ∙ ap₂ (λ (ys hs : List ℕ). length (front (λ x. has x hs) ys)) c.as-slice.ensures.value c.as-slice-2.ensures.value in
-    let w : c.first-free-at.result < length m.aside = let l = c.args.self.now.aside.ok.0 in omega (arith, c.if-at-len.true, c.len.ensures) in
-    let b = back_some p m.aside c.first-free-at.result c.remove.result at w c.remove.ensures.value in
-    let items : vec_items c.remove.new.self ≡ front p m.aside ++ rest (back p m.aside) = c.remove.ensures.by_index.2 ∙ ap₂ {C = List ℕ} (λ ys zs. ys ++ zs) (sym (front_at p m.aside c.first-free-at.result at)) (sym (ap rest b)) in
+    let at : c.first_free-at.result ≡ length (front p m.aside) = c.first_free-at.ensures ∙ ap₂ (λ (ys hs : List ℕ). length (front (λ x. has x hs) ys)) c.as_slice.ensures.value c.as_slice-2.ensures.value in
+    let w : c.first_free-at.result < length m.aside = let l = c.args.self.now.aside.ok.0 in omega (arith, c.if-at-len.true, c.len.ensures) in
+    let b = back_some p m.aside c.first_free-at.result c.remove.result at w c.remove.ensures.value in
+    let items : vec_items c.remove.new.self ≡ front p m.aside ++ rest (back p m.aside) = c.remove.ensures.by_index.2 ∙ ap₂ {C = List ℕ} (λ ys zs. ys ++ zs) (sym (front_at p m.aside c.first_free-at.result at)) (sym (ap rest b)) in
     record {
       answer = sym (ap first b);
       after = λ e. ap (λ (xs : List ℕ). with_lists m m.source xs m.returned) items;
@@ -27,24 +27,24 @@ pub returns-else-at-len : goal.returns-else-at-len
 returns-else-at-len g c =
     let m : Machine = meaning g.S.Source.stock g.T.Store.pairs g.T.Store.capacity c.args.self.now in
     let p : ℕ → Bool = λ x. has x m.held in
-    let at : c.first-free-at.result ≡ length (front p m.aside) = c.first-free-at.ensures ∙ ap₂ (λ (ys hs : List ℕ). length (front (λ x. has x hs) ys)) c.as-slice.ensures.value c.as-slice-2.ensures.value in
-    let w : length m.aside ≤ c.first-free-at.result = let l = c.args.self.now.aside.ok.0 in omega (arith, c.if-at-len.false, c.len.ensures) in
+    let at : c.first_free-at.result ≡ length (front p m.aside) = c.first_free-at.ensures ∙ ap₂ (λ (ys hs : List ℕ). length (front (λ x. has x hs) ys)) c.as_slice.ensures.value c.as_slice-2.ensures.value in
+    let w : length m.aside ≤ c.first_free-at.result = let l = c.args.self.now.aside.ok.0 in omega (arith, c.if-at-len.false, c.len.ensures) in
     record {
-      answer = sym (ap first (back_none p m.aside c.first-free-at.result at w).0);
+      answer = sym (ap first (back_none p m.aside c.first_free-at.result at w).0);
       after = λ e. absurd (false≢true e);
       refusal = λ e. same_register c.args.self.now _ _ _ _ _ _ _ _ _ refl;
       texts = refl;
     }
 
-pub invariant-of-self : goal.invariant-of-self
-invariant-of-self g c =
+pub invariant_of-self : goal.invariant_of-self
+invariant_of-self g c =
     let s = c.args.self.now in
     let aside = vec_items s.aside in
     let p : ℕ → Bool = λ x. has x (vec_items s.held) in
-    let at : c.first-free-at.result ≡ length (front p aside) = c.first-free-at.ensures ∙ ap₂ (λ (ys hs : List ℕ). length (front (λ x. has x hs) ys)) c.as-slice.ensures.value c.as-slice-2.ensures.value in
-    let w : c.first-free-at.result < length aside = let l = s.aside.ok.0 in omega (arith, c.if-at-len.true, c.len.ensures) in
-    let b = back_some p aside c.first-free-at.result c.remove.result at w c.remove.ensures.value in
-    let items : vec_items c.remove.new.self ≡ front p aside ++ rest (back p aside) = c.remove.ensures.by_index.2 ∙ ap₂ {C = List ℕ} (λ ys zs. ys ++ zs) (sym (front_at p aside c.first-free-at.result at)) (sym (ap rest b)) in (
+    let at : c.first_free-at.result ≡ length (front p aside) = c.first_free-at.ensures ∙ ap₂ (λ (ys hs : List ℕ). length (front (λ x. has x hs) ys)) c.as_slice.ensures.value c.as_slice-2.ensures.value in
+    let w : c.first_free-at.result < length aside = let l = s.aside.ok.0 in omega (arith, c.if-at-len.true, c.len.ensures) in
+    let b = back_some p aside c.first_free-at.result c.remove.result at w c.remove.ensures.value in
+    let items : vec_items c.remove.new.self ≡ front p aside ++ rest (back p aside) = c.remove.ensures.by_index.2 ∙ ap₂ {C = List ℕ} (λ ys zs. ys ++ zs) (sym (front_at p aside c.first_free-at.result at)) (sym (ap rest b)) in (
       s.early,
       (
         omega (arith, c.remove.ensures.capacity, s.aside_room),

@@ -4,8 +4,8 @@ use Rattle.machine.specs.Machine.{outside}
 use Rattle.minter.proofs.Rooms.{without_once, without_few}
 use Rattle.minter.proofs.register.Register.take_off_hold.Goals as goal
 
-pub invariant-of-self : goal.invariant-of-self
-invariant-of-self g c =
+pub invariant_of-self : goal.invariant_of-self
+invariant_of-self g c =
     let s = c.args.self.now in
     let once = without_once c.args.n (vec_items s.aside) (vec_items s.held) s.held_once s.hold_places in
     let few = without_few c.args.n (vec_items s.aside) (vec_items s.held) s.held_once s.hold_places in

@@ -12,10 +12,10 @@ use Rattle.minter.proofs.register.Register.take_returned.Goals as goal
 pub remove-requires : goal.remove-requires
 remove-requires g c =
     let m : Machine = meaning g.S.Source.stock g.T.Store.pairs g.T.Store.capacity c.args.self.now in
-    let e = ap (λ (x : Machine). length x.returned) c.pass-returned.ensures.after in
-    let d = length-drop c.first-free-at.result m.returned in
+    let e = ap (λ (x : Machine). length x.returned) c.pass_returned.ensures.after in
+    let d = length-drop c.first_free-at.result m.returned in
     let l = c.args.self.now.returned.ok.0 in
-    let k = c.pass-returned.new.self.returned.ok.0 in
+    let k = c.pass_returned.new.self.returned.ok.0 in
     omega (arith, c.if-at-len.true, c.len.ensures)
 
 pub returns-then-at-len : goal.returns-then-at-len
@@ -23,11 +23,11 @@ returns-then-at-len g c =
     let mean = meaning g.S.Source.stock g.T.Store.pairs g.T.Store.capacity in
     let m : Machine = mean c.args.self.now in
     let p : ℕ → Bool = λ x. has x m.held in
-    let i = c.first-free-at.result in
+    let i = c.first_free-at.result in
     let n = c.remove.result in
-    let at : i ≡ length (front p m.returned) = c.first-free-at.ensures ∙ ap₂ (λ (ys hs : List ℕ). length (front (λ x. has x hs) ys)) c.as-slice.ensures.value c.as-slice-2.ensures.value in
-    let q = c.pass-returned.new.self in
-    let after = c.pass-returned.ensures.after in
+    let at : i ≡ length (front p m.returned) = c.first_free-at.ensures ∙ ap₂ (λ (ys hs : List ℕ). length (front (λ x. has x hs) ys)) c.as_slice.ensures.value c.as_slice-2.ensures.value in
+    let q = c.pass_returned.new.self in
+    let after = c.pass_returned.ensures.after in
     let ys = vec_items c.remove.new.self in
     let left : vec_items q.returned ≡ drop i m.returned = ap (λ (x : Machine). x.returned) after in
     let l = c.args.self.now.returned.ok.0 in
@@ -39,17 +39,17 @@ returns-then-at-len g c =
       after = λ e. ap (λ (x : Machine). with_lists x x.source x.aside ys) after
           ∙ ap₂ (λ (xs zs : List ℕ). with_lists m m.source (set_aside m.held m.aside xs) zs) (sym (front_at p m.returned i at)) (sym (ap rest b));
       refusal = λ e. absurd (true≢false e);
-      texts = c.pass-returned.ensures.texts;
+      texts = c.pass_returned.ensures.texts;
     }
 
 pub returns-else-at-len : goal.returns-else-at-len
 returns-else-at-len g c =
     let m : Machine = meaning g.S.Source.stock g.T.Store.pairs g.T.Store.capacity c.args.self.now in
     let p : ℕ → Bool = λ x. has x m.held in
-    let at : c.first-free-at.result ≡ length (front p m.returned) = c.first-free-at.ensures ∙ ap₂ (λ (ys hs : List ℕ). length (front (λ x. has x hs) ys)) c.as-slice.ensures.value c.as-slice-2.ensures.value in
-    let w : length m.returned ≤ c.first-free-at.result = let l = c.args.self.now.returned.ok.0 in omega (arith, c.if-at-len.false, c.len.ensures) in
+    let at : c.first_free-at.result ≡ length (front p m.returned) = c.first_free-at.ensures ∙ ap₂ (λ (ys hs : List ℕ). length (front (λ x. has x hs) ys)) c.as_slice.ensures.value c.as_slice-2.ensures.value in
+    let w : length m.returned ≤ c.first_free-at.result = let l = c.args.self.now.returned.ok.0 in omega (arith, c.if-at-len.false, c.len.ensures) in
     record {
-      answer = sym (ap first (back_none p m.returned c.first-free-at.result at w).0);
+      answer = sym (ap first (back_none p m.returned c.first_free-at.result at w).0);
       after = λ e. absurd (false≢true e);
       refusal = λ e. same_register c.args.self.now _ _ _ _ _ _ _ _ _ refl;
       texts = refl;

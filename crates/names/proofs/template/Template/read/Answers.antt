@@ -4,23 +4,23 @@ use Rattle.names.specs.Templates.{told}
 use Rattle.names.proofs.Templates.{sizes, exact_told, answered, reads_padded}
 use Rattle.names.proofs.template.Template.read.Goals as goal
 
-pub returns-in-err-shape : goal.returns-in-err-shape
-returns-in-err-shape c =
-    let a : told c.from-residual.result ≡ read_template c.args.text.now = search rules in
+pub returns-in_err-shape : goal.returns-in_err-shape
+returns-in_err-shape c =
+    let a : told c.from_residual.result ≡ read_template c.args.text.now = search rules in
     record { answer = a; exact = exact_told c.args.text.now _ a }
 
 pub kept-requires : goal.kept-requires
-kept-requires c = (sizes c.args.text.now c.in-ok-shape.shape (sym c.in-ok-shape.ensures)).few
+kept-requires c = (sizes c.args.text.now c.in_ok-shape.shape (sym c.in_ok-shape.ensures)).few
 
-pub invariant-of-result : goal.invariant-of-result
-invariant-of-result c =
-    let e = sym c.in-ok-shape.ensures in
-    let s = sizes c.args.text.now c.in-ok-shape.shape e in
-    let reads = reads_padded c.args.text.now c.kept.result c.in-ok-shape.shape e c.kept.ensures in
+pub invariant_of-result : goal.invariant_of-result
+invariant_of-result c =
+    let e = sym c.in_ok-shape.ensures in
+    let s = sizes c.args.text.now c.in_ok-shape.shape e in
+    let reads = reads_padded c.args.text.now c.kept.result c.in_ok-shape.shape e c.kept.ensures in
     (reads, (s.few, (s.shoulder_few, (s.mask_some, (s.mask_few, (s.sum, tt))))))
 
 pub returns : goal.returns
 returns c =
-    let e = sym c.in-ok-shape.ensures in
-    let a = answered c.args.text.now c.kept.result c.in-ok-shape.shape e c.kept.ensures in
+    let e = sym c.in_ok-shape.ensures in
+    let a = answered c.args.text.now c.kept.result c.in_ok-shape.shape e c.kept.ensures in
     record { answer = a; exact = exact_told c.args.text.now _ a }

@@ -2,5 +2,5 @@ use Rattle.std.proofs.Common.{rules}
 use Rattle.std.proofs.lemmas.Result.{IfOk-from_err}
 use Rattle.serving.proofs.memory.Memory.new.Goals as goal
 
-pub returns-in-err-entries : goal.returns-in-err-entries
-returns-in-err-entries c = search (rules, IfOk-from_err)
+pub returns-in_err-entries : goal.returns-in_err-entries
+returns-in_err-entries c = search (rules, IfOk-from_err)

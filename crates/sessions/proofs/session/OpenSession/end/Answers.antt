@@ -9,6 +9,6 @@ pub returns : goal.returns
 returns g c =
     let t = tallies_in (g.U.Store.pairs c.args.tallies.now) (g.U.Store.capacity c.args.tallies.now) in
     record {
-      closes = λ k. (search rules, refl, join (c.write-tallies-fill.ensures.text k) c.write-total-fill.ensures.text);
-      brief = λ k e. omega (arith, c.write-tallies-fill.ensures.brief k, c.write-total-fill.ensures.brief, length-append (tally_lines t 30 1) (line (total c.args.self.minted)));
+      closes = λ k. (search rules, refl, join (c.write_tallies-fill.ensures.text k) c.write_total-fill.ensures.text);
+      brief = λ k e. omega (arith, c.write_tallies-fill.ensures.brief k, c.write_total-fill.ensures.brief, length-append (tally_lines t 30 1) (line (total c.args.self.minted)));
     }

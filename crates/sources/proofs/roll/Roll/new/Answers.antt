@@ -5,8 +5,8 @@ use Rattle.sources.specs.RollLaws.{accepted_sound}
 use Rattle.sources.specs.Rolls.{first_wrong}
 use Rattle.sources.proofs.roll.Roll.new.Goals as goal
 
-pub invariant-of-result : goal.invariant-of-result
-invariant-of-result c =
+pub invariant_of-result : goal.invariant_of-result
+invariant_of-result c =
     let xs = c.args.numbers.now in
     let t : ℕ = total_of c.args.template in
     let none : first_wrong t [] xs ≡ None = sym (c.in-None.ensures ∙ ap (λ (k : ℕ). first_wrong k [] xs) c.total.ensures.value) in

@@ -5,8 +5,8 @@ use Rattle.sources.specs.SubcounterLaws.{Chosen, live_chosen}
 use Rattle.sources.proofs.Drawing.{live_kept, live_spent}
 use Rattle.sources.proofs.subcounters.Subcounters.give.Goals as goal
 
-pub invariant-of-self : goal.invariant-of-self
-invariant-of-self c =
+pub invariant_of-self : goal.invariant_of-self
+invariant_of-self c =
     let s = c.args.self.now in
     let k = c.find-c.result in
     let q = subst (λ (i : ℕ). Chosen s.total s.share s.counts i) (sym c.find-c.ensures.found) (live_chosen s.total s.share c.args.index s.counts c.requires) in
@@ -25,8 +25,8 @@ invariant-of-self c =
       ),
     )
 
-pub invariant-of-self-else-spent : goal.invariant-of-self-else-spent
-invariant-of-self-else-spent c =
+pub invariant_of-self-else-spent : goal.invariant_of-self-else-spent
+invariant_of-self-else-spent c =
     let s = c.args.self.now in
     let k = c.find-c.result in
     let q = subst (λ (i : ℕ). Chosen s.total s.share s.counts i) (sym c.find-c.ensures.found) (live_chosen s.total s.share c.args.index s.counts c.requires) in

@@ -7,8 +7,8 @@ use Rattle.sources.proofs.subcounters.Subcounters.new.Goals as goal
 pub fresh-map-requires : goal.fresh-map-requires
 fresh-map-requires c = let few = live_few c.args.total in omega arith
 
-pub invariant-of-result : goal.invariant-of-result
-invariant-of-result c = (refl, (c.requires, (refl, (zero-add _ ∙ left_all c.args.total, (c.fresh-map.ensures ∙ sym (live_all c.args.total), tt)))))
+pub invariant_of-result : goal.invariant_of-result
+invariant_of-result c = (refl, (c.requires, (refl, (zero-add _ ∙ left_all c.args.total, (c.fresh-map.ensures ∙ sym (live_all c.args.total), tt)))))
 
 pub returns : goal.returns
 unfolding none_given
