@@ -6,4 +6,4 @@ pub returns-then-n-lt10 : goal.returns-then-n-lt10
 returns-then-n-lt10 t c = one_digit c.args.n (omega arith) c.put.ensures
 
 pub returns-else-n-lt10 : goal.returns-else-n-lt10
-returns-else-n-lt10 t c = last_digit c.args.n (omega arith) (omega arith) c.put-number-next.ensures c.put-else-n-lt10.ensures
+returns-else-n-lt10 t c = last_digit c.args.n (omega arith) (omega arith) c.put_number-next.ensures c.put-else-n-lt10.ensures

@@ -17,7 +17,7 @@ invariant_of-result c =
     let e = sym c.in_ok-shape.ensures in
     let s = sizes c.args.text.now c.in_ok-shape.shape e in
     let reads = reads_padded c.args.text.now c.kept.result c.in_ok-shape.shape e c.kept.ensures in
-    (reads, (s.few, (s.shoulder_few, (s.mask_some, (s.mask_few, (s.sum, tt))))))
+    record { reads = reads; fits = s.few; shoulder_few = s.shoulder_few; mask_some = s.mask_some; mask_few = s.mask_few; sum = s.sum }
 
 pub returns : goal.returns
 returns c =
