@@ -2,14 +2,13 @@
 ghost use Rattle.std.specs.Prelude.{◌≡◌};
 ghost use Rattle.sources.specs.Named.{total_of};
 
-use crate::chooser::Chooser;
 use crate::subcounters::Subcounters;
 use names::template::Template;
 
 pub mod calls;
 
 #[derive(Drop)]
-pub struct Generator<C: Chooser> {
+pub struct Generator<C> {
     chooser: C,
     template: Template,
     subcounters: Subcounters,

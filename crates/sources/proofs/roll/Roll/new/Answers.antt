@@ -11,4 +11,4 @@ invariant_of-result c =
     let t : ℕ = total_of c.args.template in
     let none : first_wrong t [] xs ≡ None = sym (c.in-None.ensures ∙ ap (λ (k : ℕ). first_wrong k [] xs) c.total.ensures.value) in
     let sound = accepted_sound t xs none in
-    (zero-le, (sound.once, (sound.below, tt)))
+    record { within = zero-le; once = sound.once; below = sound.below }

@@ -8,7 +8,13 @@ pub fresh-map-requires : goal.fresh-map-requires
 fresh-map-requires c = let few = live_few c.args.total in omega arith
 
 pub invariant_of-result : goal.invariant_of-result
-invariant_of-result c = (refl, (c.requires, (refl, (zero-add _ ∙ left_all c.args.total, (c.fresh-map.ensures ∙ sym (live_all c.args.total), tt)))))
+invariant_of-result c = record {
+  long = refl;
+  small = c.requires;
+  shared = refl;
+  counted = zero-add _ ∙ left_all c.args.total;
+  mapped = c.fresh-map.ensures ∙ sym (live_all c.args.total);
+}
 
 pub returns : goal.returns
 unfolding none_given
