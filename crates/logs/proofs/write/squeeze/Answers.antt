@@ -15,7 +15,7 @@ offset_bounds-entries-i g c =
     search scaled_Fits
 
 pub overflow_add-i : goal.overflow_add-i
-overflow_add-i g c = record { fits = omega (arith, c.end-stop.type-inv, c.loop-i-test.true) }
+overflow_add-i g c = record { fits = omega (arith, c.end-stop.type_inv, c.loop-i-test.true) }
 
 pub bounds-entries-w : goal.bounds-entries-w
 bounds-entries-w g c = omega (arith, c.end-stop.ensures, c.loop-i.auto.entries, c.loop-i-test.true, c.loop-i.invariant.0)
@@ -26,7 +26,7 @@ offset_bounds-entries-w g c =
     search scaled_Fits
 
 pub overflow_add-w : goal.overflow_add-w
-overflow_add-w g c = record { fits = omega (arith, c.end-stop.type-inv, c.loop-i-test.true, c.loop-i.invariant.0) }
+overflow_add-w g c = record { fits = omega (arith, c.end-stop.type_inv, c.loop-i-test.true, c.loop-i.invariant.0) }
 
 pub loop-i-preserved : goal.loop-i-preserved
 loop-i-preserved g c =

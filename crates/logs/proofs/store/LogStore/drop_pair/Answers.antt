@@ -17,7 +17,7 @@ returns g c =
     let t = c.drop_in-answer.result in
     let a = c.drop_in-answer.ensures.answer in
     let e = c.drop_in-answer.ensures.after in
-    let F : Book g.row.K.Denot g.row.V.Denot → Log g.row.K.Denot g.row.V.Denot = λ x. record { entries = record { ref_ptr = r.ptr; ghost_name = r.name; now = x.entries }; fill = record { used = x.used; count = x.count } } in
+    let F : Book g.row.K.Denot g.row.V.Denot → Log g.row.K.Denot g.row.V.Denot = λ x. record { entries = record { ref_ptr = r.ref_ptr; ghost_name = r.ghost_name; now = x.entries }; fill = record { used = x.used; count = x.count } } in
     record {
       sound = drop_stays al bk L b b' k t a e;
       capacity = drop_room al bk L b b' k t a e;

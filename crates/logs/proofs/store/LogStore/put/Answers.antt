@@ -17,7 +17,7 @@ returns g c =
     let k = c.args.k in
     let v = c.args.v in
     let e = c.put_in-answer.ensures.after in
-    let F : Book g.row.K.Denot g.row.V.Denot → Log g.row.K.Denot g.row.V.Denot = λ x. record { entries = record { ref_ptr = r.ptr; ghost_name = r.name; now = x.entries }; fill = record { used = x.used; count = x.count } } in
+    let F : Book g.row.K.Denot g.row.V.Denot → Log g.row.K.Denot g.row.V.Denot = λ x. record { entries = record { ref_ptr = r.ref_ptr; ghost_name = r.ghost_name; now = x.entries }; fill = record { used = x.used; count = x.count } } in
     record {
       sound = put_stays al bk L b b' k v e;
       capacity = put_room al bk L b b' k v e;
