@@ -12,7 +12,7 @@ use stores::text::TextKey;
 mod draws;
 mod holds;
 mod makes;
-mod names;
+mod naming;
 mod queues;
 mod serves;
 mod texts;
@@ -20,7 +20,7 @@ mod texts;
 // Numbers passed by a mint while they were held; names taken back, those that are due and those that are not yet; the
 // numbers on hold, ascending. All memory is reserved when the register is made.
 #[derive(Drop)]
-pub struct Register<S: Source, T: Store<TextKey, Text>> {
+pub struct Register<S, T> {
     source: S,
     texts: T,
     clock: u64,

@@ -35,9 +35,9 @@ pub fn run_generator<C: Chooser, T: Store<TextKey, Text>>(
     out: &mut [Answer],
 ) -> (Register<Generator<C>, T>, usize)
     ensures served { result.1 ≡ min (length calls.now) (length out.old) }
-    ensures answers { T.Store.sound texts → pairs texts ≡ [] → out.new ≡ answers (fresh (generated (C.Chooser.pick chooser) template) (capacity texts)) (asks (take result.1 calls.now)) ++ drop result.1 out.old }
-    ensures after { T.Store.sound texts → pairs texts ≡ [] → (meaning (gen_stock C.Chooser.pick) pairs capacity result.0 ≡ final (fresh (generated (C.Chooser.pick chooser) template) (capacity texts)) (asks (take result.1 calls.now))) × T.Store.sound result.0.texts }
-    ensures law { T.Store.sound texts → pairs texts ≡ [] → Law (generated (C.Chooser.pick chooser) template) (new (generated (C.Chooser.pick chooser) template)) (told (name_of (form template)) (asks (take result.1 calls.now)) out.new) }
+    ensures answers { T.Store.sound texts → T.Store.pairs texts ≡ [] → out.new ≡ answers (fresh (generated (C.Chooser.pick chooser) template) (T.Store.capacity texts)) (asks (take result.1 calls.now)) ++ drop result.1 out.old }
+    ensures after { T.Store.sound texts → T.Store.pairs texts ≡ [] → (meaning (gen_stock C.Chooser.pick) T.Store.pairs T.Store.capacity result.0 ≡ final (fresh (generated (C.Chooser.pick chooser) template) (T.Store.capacity texts)) (asks (take result.1 calls.now))) × T.Store.sound result.0.texts }
+    ensures law { T.Store.sound texts → T.Store.pairs texts ≡ [] → Law (generated (C.Chooser.pick chooser) template) (new (generated (C.Chooser.pick chooser) template)) (told (name_of (form template)) (asks (take result.1 calls.now)) out.new) }
     ensures whole { Whole template (generated (C.Chooser.pick chooser) template) }
 {
     let source = Generator::new(chooser, template);
@@ -55,9 +55,9 @@ pub fn run_roll<'a, T: Store<TextKey, Text>>(
 ) -> (Register<Roll<'a>, T>, usize, Option<SourceFault>)
     ensures served { result.1 ≡ min (length calls.now) (length out.old) }
     ensures fault { result.2 ≡ refusal_at (first_wrong (total_of template) [] numbers.now) }
-    ensures answers { T.Store.sound texts → pairs texts ≡ [] → out.new ≡ answers (fresh (rolled template numbers.now) (capacity texts)) (asks (take result.1 calls.now)) ++ drop result.1 out.old }
-    ensures after { T.Store.sound texts → pairs texts ≡ [] → (meaning roll_stock pairs capacity result.0 ≡ final (fresh (rolled template numbers.now) (capacity texts)) (asks (take result.1 calls.now))) × T.Store.sound result.0.texts }
-    ensures law { T.Store.sound texts → pairs texts ≡ [] → Law (rolled template numbers.now) (new (rolled template numbers.now)) (told (name_of (form template)) (asks (take result.1 calls.now)) out.new) }
+    ensures answers { T.Store.sound texts → T.Store.pairs texts ≡ [] → out.new ≡ answers (fresh (rolled template numbers.now) (T.Store.capacity texts)) (asks (take result.1 calls.now)) ++ drop result.1 out.old }
+    ensures after { T.Store.sound texts → T.Store.pairs texts ≡ [] → (meaning roll_stock T.Store.pairs T.Store.capacity result.0 ≡ final (fresh (rolled template numbers.now) (T.Store.capacity texts)) (asks (take result.1 calls.now))) × T.Store.sound result.0.texts }
+    ensures law { T.Store.sound texts → T.Store.pairs texts ≡ [] → Law (rolled template numbers.now) (new (rolled template numbers.now)) (told (name_of (form template)) (asks (take result.1 calls.now)) out.new) }
     ensures listed { Listed template (taken template numbers.now) (rolled template numbers.now) }
 {
     let (roll, fault) = Roll::new(template, numbers);

@@ -21,11 +21,11 @@ pub fn run<S: Source + Drop, T: Store<TextKey, Text> + Drop>(
     texts: T,
     calls: &[Call<'_>],
 ) -> Result<(Register<S, T>, Vec<Answer>), AllocError>
-    ensures answers { IfOk result (λ done. (T.Store.sound texts → pairs texts ≡ [] → done.1.items ≡ answers (fresh (stock source) (capacity texts)) (asks calls.now))) }
-    ensures after { IfOk result (λ done. (T.Store.sound texts → pairs texts ≡ [] → (meaning stock pairs capacity done.0 ≡ final (fresh (stock source) (capacity texts)) (asks calls.now)) × T.Store.sound done.0.texts)) }
-    ensures law { IfOk result (λ done. (T.Store.sound texts → pairs texts ≡ [] → Law (stock source) (new (stock source)) (told (stock source).named (asks calls.now) done.1.items))) }
-    ensures first { FirstTurns (stock source) }
-    ensures naming { IfOk result (λ done. (T.Store.sound texts → pairs texts ≡ [] → ((stock done.0.source).reads ≡ (stock source).reads) × ((stock done.0.source).named ≡ (stock source).named))) }
+    ensures answers { IfOk result (λ done. (T.Store.sound texts → T.Store.pairs texts ≡ [] → done.1.items ≡ answers (fresh (S.Source.stock source) (T.Store.capacity texts)) (asks calls.now))) }
+    ensures after { IfOk result (λ done. (T.Store.sound texts → T.Store.pairs texts ≡ [] → (meaning S.Source.stock T.Store.pairs T.Store.capacity done.0 ≡ final (fresh (S.Source.stock source) (T.Store.capacity texts)) (asks calls.now)) × T.Store.sound done.0.texts)) }
+    ensures law { IfOk result (λ done. (T.Store.sound texts → T.Store.pairs texts ≡ [] → Law (S.Source.stock source) (new (S.Source.stock source)) (told (S.Source.stock source).named (asks calls.now) done.1.items))) }
+    ensures first { FirstTurns (S.Source.stock source) }
+    ensures naming { IfOk result (λ done. (T.Store.sound texts → T.Store.pairs texts ≡ [] → ((S.Source.stock done.0.source).reads ≡ (S.Source.stock source).reads) × ((S.Source.stock done.0.source).named ≡ (S.Source.stock source).named))) }
 {
     let mut out = Vec::with_capacity(heap, calls.len())?;
     let room = Room::new(heap)?;
@@ -46,11 +46,11 @@ pub fn run_in<S: Source, T: Store<TextKey, Text>>(
     out: &mut [Answer],
 ) -> (Register<S, T>, usize)
     ensures served { result.1 ≡ min (length calls.now) (length out.old) }
-    ensures answers { T.Store.sound texts → pairs texts ≡ [] → out.new ≡ answers (fresh (stock source) (capacity texts)) (asks (take result.1 calls.now)) ++ drop result.1 out.old }
-    ensures after { T.Store.sound texts → pairs texts ≡ [] → (meaning stock pairs capacity result.0 ≡ final (fresh (stock source) (capacity texts)) (asks (take result.1 calls.now))) × T.Store.sound result.0.texts }
-    ensures law { T.Store.sound texts → pairs texts ≡ [] → Law (stock source) (new (stock source)) (told (stock source).named (asks (take result.1 calls.now)) out.new) }
-    ensures first { FirstTurns (stock source) }
-    ensures naming { T.Store.sound texts → pairs texts ≡ [] → ((stock result.0.source).reads ≡ (stock source).reads) × ((stock result.0.source).named ≡ (stock source).named) }
+    ensures answers { T.Store.sound texts → T.Store.pairs texts ≡ [] → out.new ≡ answers (fresh (S.Source.stock source) (T.Store.capacity texts)) (asks (take result.1 calls.now)) ++ drop result.1 out.old }
+    ensures after { T.Store.sound texts → T.Store.pairs texts ≡ [] → (meaning S.Source.stock T.Store.pairs T.Store.capacity result.0 ≡ final (fresh (S.Source.stock source) (T.Store.capacity texts)) (asks (take result.1 calls.now))) × T.Store.sound result.0.texts }
+    ensures law { T.Store.sound texts → T.Store.pairs texts ≡ [] → Law (S.Source.stock source) (new (S.Source.stock source)) (told (S.Source.stock source).named (asks (take result.1 calls.now)) out.new) }
+    ensures first { FirstTurns (S.Source.stock source) }
+    ensures naming { T.Store.sound texts → T.Store.pairs texts ≡ [] → ((S.Source.stock result.0.source).reads ≡ (S.Source.stock source).reads) × ((S.Source.stock result.0.source).named ≡ (S.Source.stock source).named) }
 {
     let mut reg = Register::open(room, source, texts);
     let served = calls.len().min(out.len());

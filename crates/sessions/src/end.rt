@@ -43,8 +43,8 @@ fn write_tally<U: Store<TallyKey, u64>>(
     out: &mut [u8],
     fill: usize,
 ) -> usize
-    ensures text { U.Store.sound tallies.now → Wrote out.old fill (tally_line number ((tallies_in (pairs tallies.now) (capacity tallies.now)).counts (under number))) out.new result }
-    ensures brief { U.Store.sound tallies.now → length (tally_line number ((tallies_in (pairs tallies.now) (capacity tallies.now)).counts (under number))) ≤ 48 }
+    ensures text { U.Store.sound tallies.now → Wrote out.old fill (tally_line number ((tallies_in (U.Store.pairs tallies.now) (U.Store.capacity tallies.now)).counts (under number))) out.new result }
+    ensures brief { U.Store.sound tallies.now → length (tally_line number ((tallies_in (U.Store.pairs tallies.now) (U.Store.capacity tallies.now)).counts (under number))) ≤ 48 }
 {
     let mut count = 0;
     if tallies.get(&TallyKey { number }, &mut count) {
@@ -62,8 +62,8 @@ fn write_tallies<U: Store<TallyKey, u64>>(
     out: &mut [u8],
     fill: usize,
 ) -> usize
-    ensures text { U.Store.sound tallies.now → Wrote out.old fill (tally_lines (tallies_in (pairs tallies.now) (capacity tallies.now)) (to - from) from) out.new result }
-    ensures brief { U.Store.sound tallies.now → length (tally_lines (tallies_in (pairs tallies.now) (capacity tallies.now)) (to - from) from) ≤ 48 * (to - from) }
+    ensures text { U.Store.sound tallies.now → Wrote out.old fill (tally_lines (tallies_in (U.Store.pairs tallies.now) (U.Store.capacity tallies.now)) (to - from) from) out.new result }
+    ensures brief { U.Store.sound tallies.now → length (tally_lines (tallies_in (U.Store.pairs tallies.now) (U.Store.capacity tallies.now)) (to - from) from) ≤ 48 * (to - from) }
 {
     let mut at = fill;
     for number in from..to {
@@ -88,8 +88,8 @@ impl OpenSession {
         out: &mut [u8],
         fill: usize,
     ) -> Result<Closed, StillOpen>
-        ensures closes { U.Store.sound tallies.now → Closes (length out.old - fill) (tallies_in (pairs tallies.now) (capacity tallies.now)) self out.old fill out.new result }
-        ensures brief { U.Store.sound tallies.now → is_ok result ≡ true → length (closing (tallies_in (pairs tallies.now) (capacity tallies.now)) self.minted) < 4096 }
+        ensures closes { U.Store.sound tallies.now → Closes (length out.old - fill) (tallies_in (U.Store.pairs tallies.now) (U.Store.capacity tallies.now)) self out.old fill out.new result }
+        ensures brief { U.Store.sound tallies.now → is_ok result ≡ true → length (closing (tallies_in (U.Store.pairs tallies.now) (U.Store.capacity tallies.now)) self.minted) < 4096 }
     {
         if out.len().saturating_sub(fill) < FREE {
             return Err(StillOpen {

@@ -39,7 +39,7 @@ pub struct Reply {
 
 // Tallies a refusal, where the store takes it.
 pub(crate) fn tally<U: Store<TallyKey, u64>>(tallies: &mut U, fault: CommandFault)
-    ensures after { U.Store.sound tallies.old → tallies_in (pairs tallies.new) (capacity tallies.new) ≡ tallied (command_refusal fault).number (tallies_in (pairs tallies.old) (capacity tallies.old)) }
+    ensures after { U.Store.sound tallies.old → tallies_in (U.Store.pairs tallies.new) (U.Store.capacity tallies.new) ≡ tallied (command_refusal fault).number (tallies_in (U.Store.pairs tallies.old) (U.Store.capacity tallies.old)) }
     ensures sound { U.Store.sound tallies.old → U.Store.sound tallies.new }
 {
     let number = fault.refusal().number;
@@ -88,7 +88,7 @@ pub(crate) fn refuse<U: Store<TallyKey, u64>>(
     fill: usize,
 ) -> usize
     ensures text { Wrote out.old fill (bytes_of_line (refused lines (command_refusal fault).number (command_refusal fault).place)) out.new result }
-    ensures after { U.Store.sound tallies.old → tallies_in (pairs tallies.new) (capacity tallies.new) ≡ tallied (command_refusal fault).number (tallies_in (pairs tallies.old) (capacity tallies.old)) }
+    ensures after { U.Store.sound tallies.old → tallies_in (U.Store.pairs tallies.new) (U.Store.capacity tallies.new) ≡ tallied (command_refusal fault).number (tallies_in (U.Store.pairs tallies.old) (U.Store.capacity tallies.old)) }
     ensures sound { U.Store.sound tallies.old → U.Store.sound tallies.new }
     ensures brief { length (bytes_of_line (refused lines (command_refusal fault).number (command_refusal fault).place)) ≤ 71 }
 {

@@ -35,9 +35,9 @@ fn turn_away<U: Store<TallyKey, u64>>(
     out: &mut [u8],
     fill: usize,
 ) -> Result<Entered, TurnedAway>
-    ensures led { U.Store.sound tallies.old → Led (turned_away (new_desk pairs capacity tallies.old lines) fault) (tallies_in (pairs tallies.new) (capacity tallies.new)) out.old fill out.new result }
+    ensures led { U.Store.sound tallies.old → Led (turned_away (new_desk U.Store.pairs U.Store.capacity tallies.old lines) fault) (tallies_in (U.Store.pairs tallies.new) (U.Store.capacity tallies.new)) out.old fill out.new result }
     ensures sound { U.Store.sound tallies.old → U.Store.sound tallies.new }
-    ensures brief { length (turned_away (new_desk pairs capacity tallies.old lines) fault).text ≤ 71 }
+    ensures brief { length (turned_away (new_desk U.Store.pairs U.Store.capacity tallies.old lines) fault).text ≤ 71 }
 {
     let fill = refuse(lines, fault, tallies, out, fill);
     let session = NewSession { lines };
@@ -56,9 +56,9 @@ fn enter<U: Store<TallyKey, u64>>(
     out: &mut [u8],
     fill: usize,
 ) -> Result<Entered, TurnedAway>
-    ensures led { U.Store.sound tallies.old → Led (by_template (new_desk pairs capacity tallies.old lines) word.now (read_template word.now)) (tallies_in (pairs tallies.new) (capacity tallies.new)) out.old fill out.new result }
+    ensures led { U.Store.sound tallies.old → Led (by_template (new_desk U.Store.pairs U.Store.capacity tallies.old lines) word.now (read_template word.now)) (tallies_in (U.Store.pairs tallies.new) (U.Store.capacity tallies.new)) out.old fill out.new result }
     ensures sound { U.Store.sound tallies.old → U.Store.sound tallies.new }
-    ensures brief { length word.now ≤ 120 → length (by_template (new_desk pairs capacity tallies.old lines) word.now (read_template word.now)).text ≤ 160 }
+    ensures brief { length word.now ≤ 120 → length (by_template (new_desk U.Store.pairs U.Store.capacity tallies.old lines) word.now (read_template word.now)).text ≤ 160 }
 {
     match Template::read(word) {
         Ok(template) => {
@@ -98,10 +98,10 @@ impl NewSession {
         out: &mut [u8],
         fill: usize,
     ) -> Result<Entered, TurnedAway>
-        ensures led { U.Store.sound tallies.old → Led (opened (length out.old - fill) (new_desk pairs capacity tallies.old self.lines) text.now) (tallies_in (pairs tallies.new) (capacity tallies.new)) out.old fill out.new result }
+        ensures led { U.Store.sound tallies.old → Led (opened (length out.old - fill) (new_desk U.Store.pairs U.Store.capacity tallies.old self.lines) text.now) (tallies_in (U.Store.pairs tallies.new) (U.Store.capacity tallies.new)) out.old fill out.new result }
         ensures unheard { (nat_le 65535 self.lines || nat_lt (length out.old - fill) 4096) ≡ true → (tallies.new ≡ tallies.old) × (out.new ≡ out.old) }
         ensures sound { U.Store.sound tallies.old → U.Store.sound tallies.new }
-        ensures brief { length (opened (length out.old - fill) (new_desk pairs capacity tallies.old self.lines) text.now).text ≤ 4096 }
+        ensures brief { length (opened (length out.old - fill) (new_desk U.Store.pairs U.Store.capacity tallies.old self.lines) text.now).text ≤ 4096 }
     {
         if self.lines >= LINES {
             return Err(TurnedAway {

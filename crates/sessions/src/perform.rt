@@ -35,7 +35,7 @@ fn tell<S: Source, T: Store<TextKey, Text>>(
     out: &mut [u8],
     fill: usize,
 ) -> Done
-    ensures text { Wrote out.old fill (told_of (meaning stock pairs capacity register.now).source.named word.now answer) out.new result.fill }
+    ensures text { Wrote out.old fill (told_of (meaning S.Source.stock T.Store.pairs T.Store.capacity register.now).source.named word.now answer) out.new result.fill }
     ensures minted { result.minted ≡ minted_by answer }
     ensures fault { result.fault ≡ fault_of answer }
 {
@@ -78,10 +78,10 @@ fn ask<S: Source, T: Store<TextKey, Text>>(
     out: &mut [u8],
     fill: usize,
 ) -> Done
-    ensures did { Sound (meaning stock pairs capacity register.old) → T.Store.sound register.old.texts → Did (by_calls (meaning stock pairs capacity register.old) word.now (asked call.entry ∷ [])) (meaning stock pairs capacity register.new) out.old fill out.new result }
-    ensures refusal { Sound (meaning stock pairs capacity register.old) → T.Store.sound register.old.texts → is_some result.fault ≡ true → register.new ≡ register.old }
+    ensures did { Sound (meaning S.Source.stock T.Store.pairs T.Store.capacity register.old) → T.Store.sound register.old.texts → Did (by_calls (meaning S.Source.stock T.Store.pairs T.Store.capacity register.old) word.now (asked call.entry ∷ [])) (meaning S.Source.stock T.Store.pairs T.Store.capacity register.new) out.old fill out.new result }
+    ensures refusal { Sound (meaning S.Source.stock T.Store.pairs T.Store.capacity register.old) → T.Store.sound register.old.texts → is_some result.fault ≡ true → register.new ≡ register.old }
     ensures store { T.Store.sound register.old.texts → T.Store.sound register.new.texts }
-    ensures sound { Sound (meaning stock pairs capacity register.old) → T.Store.sound register.old.texts → Sound (meaning stock pairs capacity register.new) }
+    ensures sound { Sound (meaning S.Source.stock T.Store.pairs T.Store.capacity register.old) → T.Store.sound register.old.texts → Sound (meaning S.Source.stock T.Store.pairs T.Store.capacity register.new) }
 {
     let answer = register.serve(&call);
     tell(register, answer, word, out, fill)
@@ -100,10 +100,10 @@ fn mint_names<S: Source, T: Store<TextKey, Text>>(
     out: &mut [u8],
     fill: usize,
 ) -> Done
-    ensures did { Sound (meaning stock pairs capacity register.old) → T.Store.sound register.old.texts → Did (by_calls (meaning stock pairs capacity register.old) [] (mints count (meaning stock pairs capacity register.old))) (meaning stock pairs capacity register.new) out.old fill out.new result }
-    ensures refusal { Sound (meaning stock pairs capacity register.old) → T.Store.sound register.old.texts → is_some result.fault ≡ true → result.minted ≡ 0 → register.new ≡ register.old }
+    ensures did { Sound (meaning S.Source.stock T.Store.pairs T.Store.capacity register.old) → T.Store.sound register.old.texts → Did (by_calls (meaning S.Source.stock T.Store.pairs T.Store.capacity register.old) [] (mints count (meaning S.Source.stock T.Store.pairs T.Store.capacity register.old))) (meaning S.Source.stock T.Store.pairs T.Store.capacity register.new) out.old fill out.new result }
+    ensures refusal { Sound (meaning S.Source.stock T.Store.pairs T.Store.capacity register.old) → T.Store.sound register.old.texts → is_some result.fault ≡ true → result.minted ≡ 0 → register.new ≡ register.old }
     ensures store { T.Store.sound register.old.texts → T.Store.sound register.new.texts }
-    ensures sound { Sound (meaning stock pairs capacity register.old) → T.Store.sound register.old.texts → Sound (meaning stock pairs capacity register.new) }
+    ensures sound { Sound (meaning S.Source.stock T.Store.pairs T.Store.capacity register.old) → T.Store.sound register.old.texts → Sound (meaning S.Source.stock T.Store.pairs T.Store.capacity register.new) }
 {
     let mut at = fill;
     for i in 0..count {
@@ -140,7 +140,7 @@ fn fetch_text<S: Source, T: Store<TextKey, Text>>(
     out: &mut [u8],
     fill: usize,
 ) -> Done
-    ensures { T.Store.sound register.now.texts → Did (performed (meaning stock pairs capacity register.now) (fetch name.now word.now element)) (meaning stock pairs capacity register.now) out.old fill out.new result }
+    ensures { T.Store.sound register.now.texts → Did (performed (meaning S.Source.stock T.Store.pairs T.Store.capacity register.now) (fetch name.now word.now element)) (meaning S.Source.stock T.Store.pairs T.Store.capacity register.now) out.old fill out.new result }
 {
     let mut text = blank();
     match register.fetch(name, element, &mut text) {
@@ -168,7 +168,7 @@ fn validate_name<S: Source, T: Store<TextKey, Text>>(
     out: &mut [u8],
     fill: usize,
 ) -> Done
-    ensures { Did (performed (meaning stock pairs capacity register.now) (validate name.now)) (meaning stock pairs capacity register.now) out.old fill out.new result }
+    ensures { Did (performed (meaning S.Source.stock T.Store.pairs T.Store.capacity register.now) (validate name.now)) (meaning S.Source.stock T.Store.pairs T.Store.capacity register.now) out.old fill out.new result }
 {
     match register.validate(name) {
         Ok(n) => {
@@ -200,10 +200,10 @@ pub fn perform<S: Source, T: Store<TextKey, Text>>(
     out: &mut [u8],
     fill: usize,
 ) -> Done
-    ensures did { Sound (meaning stock pairs capacity register.old) → T.Store.sound register.old.texts → Did (performed (meaning stock pairs capacity register.old) (said command.entry)) (meaning stock pairs capacity register.new) out.old fill out.new result }
-    ensures refusal { Sound (meaning stock pairs capacity register.old) → T.Store.sound register.old.texts → is_some result.fault ≡ true → result.minted ≡ 0 → register.new ≡ register.old }
+    ensures did { Sound (meaning S.Source.stock T.Store.pairs T.Store.capacity register.old) → T.Store.sound register.old.texts → Did (performed (meaning S.Source.stock T.Store.pairs T.Store.capacity register.old) (said command.entry)) (meaning S.Source.stock T.Store.pairs T.Store.capacity register.new) out.old fill out.new result }
+    ensures refusal { Sound (meaning S.Source.stock T.Store.pairs T.Store.capacity register.old) → T.Store.sound register.old.texts → is_some result.fault ≡ true → result.minted ≡ 0 → register.new ≡ register.old }
     ensures store { T.Store.sound register.old.texts → T.Store.sound register.new.texts }
-    ensures sound { Sound (meaning stock pairs capacity register.old) → T.Store.sound register.old.texts → Sound (meaning stock pairs capacity register.new) }
+    ensures sound { Sound (meaning S.Source.stock T.Store.pairs T.Store.capacity register.old) → T.Store.sound register.old.texts → Sound (meaning S.Source.stock T.Store.pairs T.Store.capacity register.new) }
 {
     match command {
         Command::Mint(count) => mint_names(register, count, out, fill),

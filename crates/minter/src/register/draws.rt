@@ -9,7 +9,7 @@ ghost use Rattle.machine.specs.Runs.{Sound};
 ghost use Rattle.minter.specs.Passes.{aside_put, aside_taken, returned_taken, passed, drawn_free};
 
 use super::Register;
-use super::names::is_ahead;
+use super::naming::is_ahead;
 use crate::lists::numbers::{contains, first_free};
 use machine::fault::RegisterFault;
 use machine::text::Text;
@@ -20,8 +20,8 @@ use stores::text::TextKey;
 impl<S: Source, T: Store<TextKey, Text>> Register<S, T> {
     // Takes the first number that is not held out of aside.
     fn take_aside(&mut self) -> Option<u64>
-        ensures answer { result ≡ first (back (holds (meaning stock pairs capacity self.old)) (meaning stock pairs capacity self.old).aside) }
-        ensures after { is_some result ≡ true → meaning stock pairs capacity self.new ≡ aside_taken (meaning stock pairs capacity self.old) }
+        ensures answer { result ≡ first (back (holds (meaning S.Source.stock T.Store.pairs T.Store.capacity self.old)) (meaning S.Source.stock T.Store.pairs T.Store.capacity self.old).aside) }
+        ensures after { is_some result ≡ true → meaning S.Source.stock T.Store.pairs T.Store.capacity self.new ≡ aside_taken (meaning S.Source.stock T.Store.pairs T.Store.capacity self.old) }
         ensures refusal { is_some result ≡ false → self.new ≡ self.old }
         ensures texts { self.new.texts ≡ self.old.texts }
     {
@@ -35,7 +35,7 @@ impl<S: Source, T: Store<TextKey, Text>> Register<S, T> {
 
     // A held number that is not aside yet comes to the end of aside; there is room, since it has its place already.
     fn set_aside(&mut self, n: u64)
-        ensures after { meaning stock pairs capacity self.new ≡ aside_put (meaning stock pairs capacity self.old) n }
+        ensures after { meaning S.Source.stock T.Store.pairs T.Store.capacity self.new ≡ aside_put (meaning S.Source.stock T.Store.pairs T.Store.capacity self.old) n }
         ensures texts { self.new.texts ≡ self.old.texts }
     {
         if contains(self.held.as_slice(), n) && !contains(self.aside.as_slice(), n) {
@@ -45,7 +45,7 @@ impl<S: Source, T: Store<TextKey, Text>> Register<S, T> {
 
     // How many held numbers are ahead in the source.
     fn held_ahead(&self) -> u64
-        ensures { result ≡ passing (λ x. is_ahead ((stock self.now.source).stands x)) (meaning stock pairs capacity self.now).held }
+        ensures { result ≡ passing (λ x. is_ahead ((S.Source.stock self.now.source).stands x)) (meaning S.Source.stock T.Store.pairs T.Store.capacity self.now).held }
     {
         let mut n = 0;
         for x in self.held.as_slice() {
@@ -58,14 +58,14 @@ impl<S: Source, T: Store<TextKey, Text>> Register<S, T> {
 
     // Whether all that is ahead in the source is held, which is known before the first draw.
     fn all_ahead_held(&self) -> bool
-        ensures { result ≡ not (is_some (first (back (holds (meaning stock pairs capacity self.now)) (stock self.now.source).ahead))) }
+        ensures { result ≡ not (is_some (first (back (holds (meaning S.Source.stock T.Store.pairs T.Store.capacity self.now)) (S.Source.stock self.now.source).ahead))) }
     {
         self.held_ahead() == self.source.left()
     }
 
     // Why there is nothing to mint.
     fn why_none(&self) -> RegisterFault
-        ensures { result ≡ none_to_mint (meaning stock pairs capacity self.now) }
+        ensures { result ≡ none_to_mint (meaning S.Source.stock T.Store.pairs T.Store.capacity self.now) }
     {
         if self.source.left() == 0
             && self.aside.is_empty()
@@ -81,7 +81,7 @@ impl<S: Source, T: Store<TextKey, Text>> Register<S, T> {
     // The first numbers of returned come aside, as many as are said.
     fn pass_returned(&mut self, many: usize)
         requires { many ≤ vec_len self.old.returned }
-        ensures after { meaning stock pairs capacity self.new ≡ passed (meaning stock pairs capacity self.old) many }
+        ensures after { meaning S.Source.stock T.Store.pairs T.Store.capacity self.new ≡ passed (meaning S.Source.stock T.Store.pairs T.Store.capacity self.old) many }
         ensures texts { self.new.texts ≡ self.old.texts }
     {
         for _ in 0..many {
@@ -92,8 +92,8 @@ impl<S: Source, T: Store<TextKey, Text>> Register<S, T> {
 
     // Draws until a number that is not held; those passed come aside.
     fn draw_free(&mut self) -> Option<u64>
-        ensures after { meaning stock pairs capacity self.new ≡ (drawn_free (stock self.old.source).ahead (meaning stock pairs capacity self.old)).0 }
-        ensures answer { result ≡ (drawn_free (stock self.old.source).ahead (meaning stock pairs capacity self.old)).1 }
+        ensures after { meaning S.Source.stock T.Store.pairs T.Store.capacity self.new ≡ (drawn_free (S.Source.stock self.old.source).ahead (meaning S.Source.stock T.Store.pairs T.Store.capacity self.old)).0 }
+        ensures answer { result ≡ (drawn_free (S.Source.stock self.old.source).ahead (meaning S.Source.stock T.Store.pairs T.Store.capacity self.old)).1 }
         ensures texts { self.new.texts ≡ self.old.texts }
     {
         while let Some(n) = self.source.draw() {
@@ -107,8 +107,8 @@ impl<S: Source, T: Store<TextKey, Text>> Register<S, T> {
 
     // Takes the first number that is not held out of returned; those before it come aside.
     fn take_returned(&mut self) -> Option<u64>
-        ensures answer { result ≡ first (back (holds (meaning stock pairs capacity self.old)) (meaning stock pairs capacity self.old).returned) }
-        ensures after { is_some result ≡ true → meaning stock pairs capacity self.new ≡ returned_taken (meaning stock pairs capacity self.old) }
+        ensures answer { result ≡ first (back (holds (meaning S.Source.stock T.Store.pairs T.Store.capacity self.old)) (meaning S.Source.stock T.Store.pairs T.Store.capacity self.old).returned) }
+        ensures after { is_some result ≡ true → meaning S.Source.stock T.Store.pairs T.Store.capacity self.new ≡ returned_taken (meaning S.Source.stock T.Store.pairs T.Store.capacity self.old) }
         ensures refusal { is_some result ≡ false → self.new ≡ self.old }
         ensures texts { self.new.texts ≡ self.old.texts }
     {
@@ -123,11 +123,11 @@ impl<S: Source, T: Store<TextKey, Text>> Register<S, T> {
 
     // Mints the first number that is not held. A refused mint draws and moves nothing.
     pub fn mint(&mut self) -> Result<u64, RegisterFault>
-        ensures after { Sound (meaning stock pairs capacity self.old) → meaning stock pairs capacity self.new ≡ (mint (meaning stock pairs capacity self.old)).0 }
-        ensures answer { Sound (meaning stock pairs capacity self.old) → result ≡ (mint (meaning stock pairs capacity self.old)).1 }
-        ensures refusal { Sound (meaning stock pairs capacity self.old) → is_ok result ≡ false → self.new ≡ self.old }
+        ensures after { Sound (meaning S.Source.stock T.Store.pairs T.Store.capacity self.old) → meaning S.Source.stock T.Store.pairs T.Store.capacity self.new ≡ (mint (meaning S.Source.stock T.Store.pairs T.Store.capacity self.old)).0 }
+        ensures answer { Sound (meaning S.Source.stock T.Store.pairs T.Store.capacity self.old) → result ≡ (mint (meaning S.Source.stock T.Store.pairs T.Store.capacity self.old)).1 }
+        ensures refusal { Sound (meaning S.Source.stock T.Store.pairs T.Store.capacity self.old) → is_ok result ≡ false → self.new ≡ self.old }
         ensures texts { self.new.texts ≡ self.old.texts }
-        ensures sound { Sound (meaning stock pairs capacity self.old) → Sound (meaning stock pairs capacity self.new) }
+        ensures sound { Sound (meaning S.Source.stock T.Store.pairs T.Store.capacity self.old) → Sound (meaning S.Source.stock T.Store.pairs T.Store.capacity self.new) }
     {
         if let Some(n) = self.take_aside() {
             return Ok(n);

@@ -16,7 +16,7 @@ use stores::text::TextKey;
 impl<S: Source, T: Store<TextKey, Text>> Register<S, T> {
     // Whether n, which is not held, finds no place: it is not aside, and all places are used.
     fn lacks_place(&self, n: u64) -> bool
-        ensures { result ≡ (not (has n (meaning stock pairs capacity self.now).aside) && nat_le 64 (places (meaning stock pairs capacity self.now))) }
+        ensures { result ≡ (not (has n (meaning S.Source.stock T.Store.pairs T.Store.capacity self.now).aside) && nat_le 64 (places (meaning S.Source.stock T.Store.pairs T.Store.capacity self.now))) }
     {
         let aside = self.aside.as_slice();
         !contains(aside, n) && aside.len() + outside(aside, self.held.as_slice()) >= 64
@@ -24,9 +24,9 @@ impl<S: Source, T: Store<TextKey, Text>> Register<S, T> {
 
     // Puts n, which is not held and finds a place, among the held.
     fn put_on_hold(&mut self, n: u64)
-        requires new { has n (meaning stock pairs capacity self.old).held ≡ false }
-        requires place { (not (has n (meaning stock pairs capacity self.old).aside) && nat_le 64 (places (meaning stock pairs capacity self.old))) ≡ false }
-        ensures after { meaning stock pairs capacity self.new ≡ with_held (meaning stock pairs capacity self.old) (added n (meaning stock pairs capacity self.old).held) }
+        requires new { has n (meaning S.Source.stock T.Store.pairs T.Store.capacity self.old).held ≡ false }
+        requires place { (not (has n (meaning S.Source.stock T.Store.pairs T.Store.capacity self.old).aside) && nat_le 64 (places (meaning S.Source.stock T.Store.pairs T.Store.capacity self.old))) ≡ false }
+        ensures after { meaning S.Source.stock T.Store.pairs T.Store.capacity self.new ≡ with_held (meaning S.Source.stock T.Store.pairs T.Store.capacity self.old) (added n (meaning S.Source.stock T.Store.pairs T.Store.capacity self.old).held) }
         ensures texts { self.new.texts ≡ self.old.texts }
     {
         add(&mut self.held, n);
@@ -34,7 +34,7 @@ impl<S: Source, T: Store<TextKey, Text>> Register<S, T> {
 
     // Takes n out of the held.
     fn take_off_hold(&mut self, n: u64)
-        ensures after { meaning stock pairs capacity self.new ≡ with_held (meaning stock pairs capacity self.old) (without n (meaning stock pairs capacity self.old).held) }
+        ensures after { meaning S.Source.stock T.Store.pairs T.Store.capacity self.new ≡ with_held (meaning S.Source.stock T.Store.pairs T.Store.capacity self.old) (without n (meaning S.Source.stock T.Store.pairs T.Store.capacity self.old).held) }
         ensures texts { self.new.texts ≡ self.old.texts }
     {
         remove(&mut self.held, n);
@@ -42,11 +42,11 @@ impl<S: Source, T: Store<TextKey, Text>> Register<S, T> {
 
     // Puts a name on hold.
     pub fn hold(&mut self, name: &[u8]) -> Result<u64, RegisterFault>
-        ensures after { meaning stock pairs capacity self.new ≡ (hold (meaning stock pairs capacity self.old) name.now).0 }
-        ensures answer { result ≡ (hold (meaning stock pairs capacity self.old) name.now).1 }
+        ensures after { meaning S.Source.stock T.Store.pairs T.Store.capacity self.new ≡ (hold (meaning S.Source.stock T.Store.pairs T.Store.capacity self.old) name.now).0 }
+        ensures answer { result ≡ (hold (meaning S.Source.stock T.Store.pairs T.Store.capacity self.old) name.now).1 }
         ensures refusal { is_ok result ≡ false → self.new ≡ self.old }
         ensures texts { self.new.texts ≡ self.old.texts }
-        ensures sound { Sound (meaning stock pairs capacity self.old) → Sound (meaning stock pairs capacity self.new) }
+        ensures sound { Sound (meaning S.Source.stock T.Store.pairs T.Store.capacity self.old) → Sound (meaning S.Source.stock T.Store.pairs T.Store.capacity self.new) }
     {
         let n = self.number(name)?;
         if contains(self.held.as_slice(), n) {
@@ -61,11 +61,11 @@ impl<S: Source, T: Store<TextKey, Text>> Register<S, T> {
 
     // Takes a name's hold away.
     pub fn release(&mut self, name: &[u8]) -> Result<u64, RegisterFault>
-        ensures after { meaning stock pairs capacity self.new ≡ (release (meaning stock pairs capacity self.old) name.now).0 }
-        ensures answer { result ≡ (release (meaning stock pairs capacity self.old) name.now).1 }
+        ensures after { meaning S.Source.stock T.Store.pairs T.Store.capacity self.new ≡ (release (meaning S.Source.stock T.Store.pairs T.Store.capacity self.old) name.now).0 }
+        ensures answer { result ≡ (release (meaning S.Source.stock T.Store.pairs T.Store.capacity self.old) name.now).1 }
         ensures refusal { is_ok result ≡ false → self.new ≡ self.old }
         ensures texts { self.new.texts ≡ self.old.texts }
-        ensures sound { Sound (meaning stock pairs capacity self.old) → Sound (meaning stock pairs capacity self.new) }
+        ensures sound { Sound (meaning S.Source.stock T.Store.pairs T.Store.capacity self.old) → Sound (meaning S.Source.stock T.Store.pairs T.Store.capacity self.new) }
     {
         let n = self.number(name)?;
         if !contains(self.held.as_slice(), n) {

@@ -33,9 +33,9 @@ impl<S: Source, T: Store<TextKey, Text>> Register<S, T> {
     // A register over a source and a store, in memory that was reserved before.
     pub fn open(room: Room, source: S, texts: T) -> Register<S, T>
         ensures parts { (result.source ≡ source) × (result.texts ≡ texts) }
-        ensures opened { meaning stock pairs capacity result ≡ opened (stock source) (pairs texts) (capacity texts) }
-        ensures fresh { pairs texts ≡ [] → meaning stock pairs capacity result ≡ fresh (stock source) (capacity texts) }
-        ensures sound { pairs texts ≡ [] → Sound (meaning stock pairs capacity result) }
+        ensures opened { meaning S.Source.stock T.Store.pairs T.Store.capacity result ≡ opened (S.Source.stock source) (T.Store.pairs texts) (T.Store.capacity texts) }
+        ensures fresh { T.Store.pairs texts ≡ [] → meaning S.Source.stock T.Store.pairs T.Store.capacity result ≡ fresh (S.Source.stock source) (T.Store.capacity texts) }
+        ensures sound { T.Store.pairs texts ≡ [] → Sound (meaning S.Source.stock T.Store.pairs T.Store.capacity result) }
     {
         let Room {
             aside,
@@ -59,9 +59,9 @@ impl<S: Source + Drop, T: Store<TextKey, Text> + Drop> Register<S, T> {
     // The same where the memory is yet to be reserved.
     pub fn new(heap: Global, source: S, texts: T) -> Result<Register<S, T>, AllocError>
         ensures parts { IfOk result (λ reg. (reg.source ≡ source) × (reg.texts ≡ texts)) }
-        ensures opened { IfOk result (λ reg. meaning stock pairs capacity reg ≡ opened (stock source) (pairs texts) (capacity texts)) }
-        ensures fresh { IfOk result (λ reg. (pairs texts ≡ [] → meaning stock pairs capacity reg ≡ fresh (stock source) (capacity texts))) }
-        ensures sound { IfOk result (λ reg. (pairs texts ≡ [] → Sound (meaning stock pairs capacity reg))) }
+        ensures opened { IfOk result (λ reg. meaning S.Source.stock T.Store.pairs T.Store.capacity reg ≡ opened (S.Source.stock source) (T.Store.pairs texts) (T.Store.capacity texts)) }
+        ensures fresh { IfOk result (λ reg. (T.Store.pairs texts ≡ [] → meaning S.Source.stock T.Store.pairs T.Store.capacity reg ≡ fresh (S.Source.stock source) (T.Store.capacity texts))) }
+        ensures sound { IfOk result (λ reg. (T.Store.pairs texts ≡ [] → Sound (meaning S.Source.stock T.Store.pairs T.Store.capacity reg))) }
     {
         let room = Room::new(heap)?;
         Ok(Register::open(room, source, texts))

@@ -17,7 +17,7 @@ use stores::text::TextKey;
 impl<S: Source, T: Store<TextKey, Text>> Register<S, T> {
     // Moves what is due by a second to the end of returned, the soonest first.
     fn return_due(&mut self, until: u64)
-        ensures after { meaning stock pairs capacity self.new ≡ due_by until (meaning stock pairs capacity self.old) }
+        ensures after { meaning S.Source.stock T.Store.pairs T.Store.capacity self.new ≡ due_by until (meaning S.Source.stock T.Store.pairs T.Store.capacity self.old) }
         ensures clock { self.new.clock ≡ self.old.clock }
         ensures texts { self.new.texts ≡ self.old.texts }
     {
@@ -28,11 +28,11 @@ impl<S: Source, T: Store<TextKey, Text>> Register<S, T> {
 
     // Sets the clock; what is due by then is taken back.
     pub fn tick(&mut self, to: u64) -> Result<u64, RegisterFault>
-        ensures after { meaning stock pairs capacity self.new ≡ (tick (meaning stock pairs capacity self.old) to).0 }
-        ensures answer { result ≡ (tick (meaning stock pairs capacity self.old) to).1 }
+        ensures after { meaning S.Source.stock T.Store.pairs T.Store.capacity self.new ≡ (tick (meaning S.Source.stock T.Store.pairs T.Store.capacity self.old) to).0 }
+        ensures answer { result ≡ (tick (meaning S.Source.stock T.Store.pairs T.Store.capacity self.old) to).1 }
         ensures refusal { is_ok result ≡ false → self.new ≡ self.old }
         ensures texts { self.new.texts ≡ self.old.texts }
-        ensures sound { Sound (meaning stock pairs capacity self.old) → Sound (meaning stock pairs capacity self.new) }
+        ensures sound { Sound (meaning S.Source.stock T.Store.pairs T.Store.capacity self.old) → Sound (meaning S.Source.stock T.Store.pairs T.Store.capacity self.new) }
     {
         if to < self.clock || to > 1_000_000_000_000 {
             return Err(RegisterFault::Clock);
@@ -44,11 +44,11 @@ impl<S: Source, T: Store<TextKey, Text>> Register<S, T> {
 
     // Takes a minted name back, at once or after a delay in seconds.
     pub fn queue(&mut self, name: &[u8], delay: u64) -> Result<u64, RegisterFault>
-        ensures after { T.Store.sound self.old.texts → meaning stock pairs capacity self.new ≡ (queue (meaning stock pairs capacity self.old) name.now delay).0 }
-        ensures answer { T.Store.sound self.old.texts → result ≡ (queue (meaning stock pairs capacity self.old) name.now delay).1 }
+        ensures after { T.Store.sound self.old.texts → meaning S.Source.stock T.Store.pairs T.Store.capacity self.new ≡ (queue (meaning S.Source.stock T.Store.pairs T.Store.capacity self.old) name.now delay).0 }
+        ensures answer { T.Store.sound self.old.texts → result ≡ (queue (meaning S.Source.stock T.Store.pairs T.Store.capacity self.old) name.now delay).1 }
         ensures refusal { is_ok result ≡ false → self.new ≡ self.old }
         ensures texts { self.new.texts ≡ self.old.texts }
-        ensures sound { Sound (meaning stock pairs capacity self.old) → T.Store.sound self.old.texts → Sound (meaning stock pairs capacity self.new) }
+        ensures sound { Sound (meaning S.Source.stock T.Store.pairs T.Store.capacity self.old) → T.Store.sound self.old.texts → Sound (meaning S.Source.stock T.Store.pairs T.Store.capacity self.new) }
     {
         let n = self.number(name)?;
         if delay > 31_536_000 {

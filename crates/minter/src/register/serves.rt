@@ -17,9 +17,9 @@ use stores::text::TextKey;
 impl<S: Source, T: Store<TextKey, Text>> Register<S, T> {
     // What comes of a call.
     fn outcome(&mut self, call: &Call<'_>) -> Result<u64, RegisterFault>
-        ensures after { Sound (meaning stock pairs capacity self.old) → T.Store.sound self.old.texts → meaning stock pairs capacity self.new ≡ (outcome (meaning stock pairs capacity self.old) (asked call.now)).0 }
-        ensures answer { Sound (meaning stock pairs capacity self.old) → T.Store.sound self.old.texts → result ≡ (outcome (meaning stock pairs capacity self.old) (asked call.now)).1 }
-        ensures refusal { Sound (meaning stock pairs capacity self.old) → T.Store.sound self.old.texts → is_ok result ≡ false → self.new ≡ self.old }
+        ensures after { Sound (meaning S.Source.stock T.Store.pairs T.Store.capacity self.old) → T.Store.sound self.old.texts → meaning S.Source.stock T.Store.pairs T.Store.capacity self.new ≡ (outcome (meaning S.Source.stock T.Store.pairs T.Store.capacity self.old) (asked call.now)).0 }
+        ensures answer { Sound (meaning S.Source.stock T.Store.pairs T.Store.capacity self.old) → T.Store.sound self.old.texts → result ≡ (outcome (meaning S.Source.stock T.Store.pairs T.Store.capacity self.old) (asked call.now)).1 }
+        ensures refusal { Sound (meaning S.Source.stock T.Store.pairs T.Store.capacity self.old) → T.Store.sound self.old.texts → is_ok result ≡ false → self.new ≡ self.old }
         ensures store { T.Store.sound self.old.texts → T.Store.sound self.new.texts }
     {
         match call {
@@ -35,11 +35,11 @@ impl<S: Source, T: Store<TextKey, Text>> Register<S, T> {
 
     // One call of the seven, and its answer.
     pub fn serve(&mut self, call: &Call<'_>) -> Answer
-        ensures after { Sound (meaning stock pairs capacity self.old) → T.Store.sound self.old.texts → meaning stock pairs capacity self.new ≡ (step (meaning stock pairs capacity self.old) (asked call.now)).0 }
-        ensures answer { Sound (meaning stock pairs capacity self.old) → T.Store.sound self.old.texts → result ≡ (step (meaning stock pairs capacity self.old) (asked call.now)).1 }
-        ensures refusal { Sound (meaning stock pairs capacity self.old) → T.Store.sound self.old.texts → accepted result ≡ false → self.new ≡ self.old }
+        ensures after { Sound (meaning S.Source.stock T.Store.pairs T.Store.capacity self.old) → T.Store.sound self.old.texts → meaning S.Source.stock T.Store.pairs T.Store.capacity self.new ≡ (step (meaning S.Source.stock T.Store.pairs T.Store.capacity self.old) (asked call.now)).0 }
+        ensures answer { Sound (meaning S.Source.stock T.Store.pairs T.Store.capacity self.old) → T.Store.sound self.old.texts → result ≡ (step (meaning S.Source.stock T.Store.pairs T.Store.capacity self.old) (asked call.now)).1 }
+        ensures refusal { Sound (meaning S.Source.stock T.Store.pairs T.Store.capacity self.old) → T.Store.sound self.old.texts → accepted result ≡ false → self.new ≡ self.old }
         ensures store { T.Store.sound self.old.texts → T.Store.sound self.new.texts }
-        ensures sound { Sound (meaning stock pairs capacity self.old) → T.Store.sound self.old.texts → Sound (meaning stock pairs capacity self.new) }
+        ensures sound { Sound (meaning S.Source.stock T.Store.pairs T.Store.capacity self.old) → T.Store.sound self.old.texts → Sound (meaning S.Source.stock T.Store.pairs T.Store.capacity self.new) }
     {
         let outcome = self.outcome(call);
         call.answer(outcome)

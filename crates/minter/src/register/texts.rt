@@ -23,7 +23,7 @@ fn blank() -> Text
 
 impl<S: Source, T: Store<TextKey, Text>> Register<S, T> {
     fn has_text_under(&self, n: u64, element: Element) -> bool
-        ensures { T.Store.sound self.now.texts → result ≡ text_under (meaning stock pairs capacity self.now) n element }
+        ensures { T.Store.sound self.now.texts → result ≡ text_under (meaning S.Source.stock T.Store.pairs T.Store.capacity self.now) n element }
     {
         let mut place = blank();
         let key = TextKey { number: n, element };
@@ -32,7 +32,7 @@ impl<S: Source, T: Store<TextKey, Text>> Register<S, T> {
 
     // Whether a text is under n, whatever its element.
     pub(crate) fn has_text(&self, n: u64) -> bool
-        ensures { T.Store.sound self.now.texts → result ≡ text_bound (meaning stock pairs capacity self.now) n }
+        ensures { T.Store.sound self.now.texts → result ≡ text_bound (meaning S.Source.stock T.Store.pairs T.Store.capacity self.now) n }
     {
         self.has_text_under(n, Element::Who)
             || self.has_text_under(n, Element::What)
@@ -42,8 +42,8 @@ impl<S: Source, T: Store<TextKey, Text>> Register<S, T> {
 
     // Puts a text under n and an element, where the store takes it.
     fn put_text(&mut self, n: u64, element: Element, value: Text) -> Result<(), RegisterFault>
-        ensures after { T.Store.sound self.old.texts → meaning stock pairs capacity self.new ≡ text_put (meaning stock pairs capacity self.old) n element (bytes_of value) }
-        ensures answer { T.Store.sound self.old.texts → result ≡ (if lacks_room (meaning stock pairs capacity self.old) n element then Err (Store Full) else Ok tt) }
+        ensures after { T.Store.sound self.old.texts → meaning S.Source.stock T.Store.pairs T.Store.capacity self.new ≡ text_put (meaning S.Source.stock T.Store.pairs T.Store.capacity self.old) n element (bytes_of value) }
+        ensures answer { T.Store.sound self.old.texts → result ≡ (if lacks_room (meaning S.Source.stock T.Store.pairs T.Store.capacity self.old) n element then Err (Store Full) else Ok tt) }
         ensures refusal { T.Store.sound self.old.texts → is_ok result ≡ false → self.new ≡ self.old }
         ensures store { T.Store.sound self.old.texts → T.Store.sound self.new.texts }
     {
@@ -61,11 +61,11 @@ impl<S: Source, T: Store<TextKey, Text>> Register<S, T> {
         element: Option<Element>,
         text: &[u8],
     ) -> Result<u64, RegisterFault>
-        ensures after { T.Store.sound self.old.texts → meaning stock pairs capacity self.new ≡ (bind (meaning stock pairs capacity self.old) name.now element text.now).0 }
-        ensures answer { T.Store.sound self.old.texts → result ≡ (bind (meaning stock pairs capacity self.old) name.now element text.now).1 }
+        ensures after { T.Store.sound self.old.texts → meaning S.Source.stock T.Store.pairs T.Store.capacity self.new ≡ (bind (meaning S.Source.stock T.Store.pairs T.Store.capacity self.old) name.now element text.now).0 }
+        ensures answer { T.Store.sound self.old.texts → result ≡ (bind (meaning S.Source.stock T.Store.pairs T.Store.capacity self.old) name.now element text.now).1 }
         ensures refusal { T.Store.sound self.old.texts → is_ok result ≡ false → self.new ≡ self.old }
         ensures store { T.Store.sound self.old.texts → T.Store.sound self.new.texts }
-        ensures sound { Sound (meaning stock pairs capacity self.old) → T.Store.sound self.old.texts → Sound (meaning stock pairs capacity self.new) }
+        ensures sound { Sound (meaning S.Source.stock T.Store.pairs T.Store.capacity self.old) → T.Store.sound self.old.texts → Sound (meaning S.Source.stock T.Store.pairs T.Store.capacity self.new) }
     {
         let n = self.number(name)?;
         let element = element.ok_or(RegisterFault::ElementWord)?;
@@ -79,8 +79,8 @@ impl<S: Source, T: Store<TextKey, Text>> Register<S, T> {
 
     // Removes the text under n and an element, and says whether there was one.
     fn drop_text(&mut self, n: u64, element: Element) -> bool
-        ensures after { T.Store.sound self.old.texts → meaning stock pairs capacity self.new ≡ text_dropped (meaning stock pairs capacity self.old) n element }
-        ensures answer { T.Store.sound self.old.texts → result ≡ text_under (meaning stock pairs capacity self.old) n element }
+        ensures after { T.Store.sound self.old.texts → meaning S.Source.stock T.Store.pairs T.Store.capacity self.new ≡ text_dropped (meaning S.Source.stock T.Store.pairs T.Store.capacity self.old) n element }
+        ensures answer { T.Store.sound self.old.texts → result ≡ text_under (meaning S.Source.stock T.Store.pairs T.Store.capacity self.old) n element }
         ensures refusal { T.Store.sound self.old.texts → result ≡ false → self.new ≡ self.old }
         ensures store { T.Store.sound self.old.texts → T.Store.sound self.new.texts }
     {
@@ -90,11 +90,11 @@ impl<S: Source, T: Store<TextKey, Text>> Register<S, T> {
 
     // Removes the text under a name and an element.
     pub fn purge(&mut self, name: &[u8], element: Option<Element>) -> Result<u64, RegisterFault>
-        ensures after { T.Store.sound self.old.texts → meaning stock pairs capacity self.new ≡ (purge (meaning stock pairs capacity self.old) name.now element).0 }
-        ensures answer { T.Store.sound self.old.texts → result ≡ (purge (meaning stock pairs capacity self.old) name.now element).1 }
+        ensures after { T.Store.sound self.old.texts → meaning S.Source.stock T.Store.pairs T.Store.capacity self.new ≡ (purge (meaning S.Source.stock T.Store.pairs T.Store.capacity self.old) name.now element).0 }
+        ensures answer { T.Store.sound self.old.texts → result ≡ (purge (meaning S.Source.stock T.Store.pairs T.Store.capacity self.old) name.now element).1 }
         ensures refusal { T.Store.sound self.old.texts → is_ok result ≡ false → self.new ≡ self.old }
         ensures store { T.Store.sound self.old.texts → T.Store.sound self.new.texts }
-        ensures sound { Sound (meaning stock pairs capacity self.old) → T.Store.sound self.old.texts → Sound (meaning stock pairs capacity self.new) }
+        ensures sound { Sound (meaning S.Source.stock T.Store.pairs T.Store.capacity self.old) → T.Store.sound self.old.texts → Sound (meaning S.Source.stock T.Store.pairs T.Store.capacity self.new) }
     {
         let n = self.number(name)?;
         let element = element.ok_or(RegisterFault::ElementWord)?;
@@ -112,8 +112,8 @@ impl<S: Source, T: Store<TextKey, Text>> Register<S, T> {
         element: Option<Element>,
         place: &mut Text,
     ) -> Result<u64, RegisterFault>
-        ensures answer { T.Store.sound self.now.texts → result ≡ (fetch (meaning stock pairs capacity self.now) name.now element).1 }
-        ensures text { T.Store.sound self.now.texts → is_ok result ≡ true → Some (bytes_of place.new) ≡ fetched (meaning stock pairs capacity self.now) name.now element }
+        ensures answer { T.Store.sound self.now.texts → result ≡ (fetch (meaning S.Source.stock T.Store.pairs T.Store.capacity self.now) name.now element).1 }
+        ensures text { T.Store.sound self.now.texts → is_ok result ≡ true → Some (bytes_of place.new) ≡ fetched (meaning S.Source.stock T.Store.pairs T.Store.capacity self.now) name.now element }
         ensures refusal { T.Store.sound self.now.texts → is_ok result ≡ false → place.new ≡ place.old }
     {
         let n = self.number(name)?;

@@ -6,7 +6,7 @@ use Rattle.commands.proofs.number.delay_of.Goals as goal
 
 pub returns-in_default : goal.returns-in_default
 returns-in_default c =
-    c.number_of.ensures ∙ ap (λ o. or_else o (number c.args.word.now)) (absent delays c.in-Ok.text.now (c.in_default.not_now, tt) ∙ ap (pick delays) c.in-Ok.ensures.cases.0)
+    c.number_of.ensures ∙ ap (λ o. or_else o (number c.args.word.now)) (absent delays c.in-Ok.text.now (c.in_default.not-now, tt) ∙ ap (pick delays) c.in-Ok.ensures.cases.0)
 
 pub returns-in-Err : goal.returns-in-Err
 returns-in-Err c =

@@ -19,22 +19,13 @@ invariant_of-self g c =
     let on : has c.args.n (vec_items s.held) ≡ true = ap (has c.args.n) (sym c.as_slice.ensures.value) ∙ sym c.if-contains.ensures in
     let out : has c.args.n (vec_items s.aside) ≡ false = ap (has c.args.n) (sym c.as_slice-then-contains.ensures.value) ∙ sym c.if-not-contains.ensures in
     let few = aside_few c.args.n (vec_items s.aside) (vec_items s.held) s.hold_places out on in
-    let e = c.push_reserved.ensures in (
-      s.early,
-      (
-        omega (arith, e.capacity, s.aside_room),
-        (
-          s.returned_room,
-          (
-            s.delayed_room,
-            (
-              s.held_room,
-              (
-                s.held_once,
-                (subst (λ (xs : List ℕ). length xs + outside xs (vec_items s.held) ≤ 64) (sym e.items) few, (s.queue_places, tt)),
-              ),
-            ),
-          ),
-        ),
-      ),
-    )
+    let e = c.push_reserved.ensures in record {
+      early = s.early;
+      aside_room = omega (arith, e.capacity, s.aside_room);
+      returned_room = s.returned_room;
+      delayed_room = s.delayed_room;
+      held_room = s.held_room;
+      held_once = s.held_once;
+      hold_places = subst (λ (xs : List ℕ). length xs + outside xs (vec_items s.held) ≤ 64) (sym e.items) few;
+      queue_places = s.queue_places;
+    }

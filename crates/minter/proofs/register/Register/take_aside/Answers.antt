@@ -44,22 +44,13 @@ invariant_of-self g c =
     let at : c.first_free-at.result ≡ length (front p aside) = c.first_free-at.ensures ∙ ap₂ (λ (ys hs : List ℕ). length (front (λ x. has x hs) ys)) c.as_slice.ensures.value c.as_slice-2.ensures.value in
     let w : c.first_free-at.result < length aside = let l = s.aside.ok.0 in omega (arith, c.if-at-len.true, c.len.ensures) in
     let b = back_some p aside c.first_free-at.result c.remove.result at w c.remove.ensures.value in
-    let items : vec_items c.remove.new.self ≡ front p aside ++ rest (back p aside) = c.remove.ensures.by_index.2 ∙ ap₂ {C = List ℕ} (λ ys zs. ys ++ zs) (sym (front_at p aside c.first_free-at.result at)) (sym (ap rest b)) in (
-      s.early,
-      (
-        omega (arith, c.remove.ensures.capacity, s.aside_room),
-        (
-          s.returned_room,
-          (
-            s.delayed_room,
-            (
-              s.held_room,
-              (
-                s.held_once,
-                (subst (λ (xs : List ℕ). length xs + outside xs (vec_items s.held) ≤ 64) (sym items) (taken_few aside (vec_items s.held) s.hold_places), (s.queue_places, tt)),
-              ),
-            ),
-          ),
-        ),
-      ),
-    )
+    let items : vec_items c.remove.new.self ≡ front p aside ++ rest (back p aside) = c.remove.ensures.by_index.2 ∙ ap₂ {C = List ℕ} (λ ys zs. ys ++ zs) (sym (front_at p aside c.first_free-at.result at)) (sym (ap rest b)) in record {
+      early = s.early;
+      aside_room = omega (arith, c.remove.ensures.capacity, s.aside_room);
+      returned_room = s.returned_room;
+      delayed_room = s.delayed_room;
+      held_room = s.held_room;
+      held_once = s.held_once;
+      hold_places = subst (λ (xs : List ℕ). length xs + outside xs (vec_items s.held) ≤ 64) (sym items) (taken_few aside (vec_items s.held) s.hold_places);
+      queue_places = s.queue_places;
+    }

@@ -47,21 +47,21 @@ fn is_foreign(stand: Stand) -> bool
 impl<S: Source, T: Store<TextKey, Text>> Register<S, T> {
     // The name of n.
     pub fn name(&self, n: u64) -> Name
-        ensures { text_of result ≡ (meaning stock pairs capacity self.now).source.named n }
+        ensures { text_of result ≡ (meaning S.Source.stock T.Store.pairs T.Store.capacity self.now).source.named n }
     {
         self.source.name(n)
     }
 
     // The number of a handed text that is a name of the template, or why it is none.
     pub fn validate(&self, name: &[u8]) -> Result<u64, RegisterFault>
-        ensures { result ≡ validate (meaning stock pairs capacity self.now) name.now }
+        ensures { result ≡ validate (meaning S.Source.stock T.Store.pairs T.Store.capacity self.now) name.now }
     {
         Ok(self.source.validate(bare(name))?)
     }
 
     // The same for a name of the source.
     pub(crate) fn number(&self, name: &[u8]) -> Result<u64, RegisterFault>
-        ensures { result ≡ number_of (meaning stock pairs capacity self.now) name.now }
+        ensures { result ≡ number_of (meaning S.Source.stock T.Store.pairs T.Store.capacity self.now) name.now }
     {
         let n = self.validate(name)?;
         if is_foreign(self.source.stand(n)) {
@@ -72,7 +72,7 @@ impl<S: Source, T: Store<TextKey, Text>> Register<S, T> {
 
     // Whether n is to come, in the source or in one of the lists.
     pub(crate) fn waits(&self, n: u64) -> bool
-        ensures { result ≡ waiting (meaning stock pairs capacity self.now) n }
+        ensures { result ≡ waiting (meaning S.Source.stock T.Store.pairs T.Store.capacity self.now) n }
     {
         is_ahead(self.source.stand(n))
             || contains(self.aside.as_slice(), n)
