@@ -1,5 +1,5 @@
 -- What drop leaves in a chain table is what a store's drop leaves.
-use Rattle.std.proofs.Common.{◌≡◌, ℕ, suc, ◌-◌, Bool, true, false, cond, not, eqb, ◌⊎◌, List, length, is_some, None, Option, sym, ap, ◌∙◌, subst, ⊎_elim, arith, length-set, eq-eqb, ne_eqb, eqb-true}
+use Rattle.std.proofs.Common.{◌≡◌, ℕ, suc, Bool, true, false, cond, not, eqb, List, length, is_some, None, Option, sym, ap, ◌∙◌, subst, ⊎_elim, arith, length-set, eq-eqb, ne_eqb, eqb-true}
 use lib.ListN.{length-map}
 use borrow.Author.Tests.{not-false}
 use Rattle.std.proofs.lemmas.Bool.{cases_eq}

@@ -1,11 +1,11 @@
 -- A table whose free chain has every record past the heads is sound and has no pair.
-use Rattle.std.proofs.Common.{◌≡◌, ℕ, zero, suc, ◌+◌, ◌-◌, ◌<◌, ◌≤◌, Bool, true, cond, ltb, ◌⊎◌, List, [], length, get_or, sym, refl, ap, ◌∙◌, subst, ⊎_elim, arith, le-ltb, lt-ltb}
+use Rattle.std.proofs.Common.{◌≡◌, ℕ, zero, suc, ◌+◌, ◌-◌, ◌<◌, ◌≤◌, Bool, true, cond, ltb, List, [], length, get_or, sym, refl, ap, ◌∙◌, subst, ⊎_elim, arith, le-ltb, lt-ltb}
 use borrow.Author.Tests.{clash}
 use Rattle.std.proofs.lemmas.Bool.{cases_eq}
 use Rattle.std.specs.List.{range_with_len}
 use Rattle.std.proofs.lemmas.List.FromFn.{length-range_with_len}
 use Rattle.chains.specs.Chains.{run, Ends, has, chain, in_use, Linked, laid}
-use Rattle.chains.specs.Tables.{table, Sound}
+use Rattle.chains.specs.Tables.{Sound}
 use Rattle.chains.proofs.Walks.{run_ends, run_zero}
 use Rattle.chains.proofs.Shifts.{in_use_more, in_use_none}
 

@@ -1,5 +1,5 @@
 -- A free record moved to the chain of a new key: what is found then, and that the table stays sound.
-use Rattle.std.proofs.Common.{◌≡◌, ℕ, suc, ◌-◌, ◌<◌, ◌≤◌, Bool, true, false, cond, ◌⊎◌, List, ◌∷◌, map, length, get_or, set, Some, sym, ap, ◌∙◌, subst, inl, inr, ⊎_elim, arith, length-set, get_or-set_other, get_or-set_same}
+use Rattle.std.proofs.Common.{◌≡◌, ℕ, suc, ◌<◌, ◌≤◌, Bool, true, false, cond, ◌⊎◌, List, ◌∷◌, map, length, get_or, set, Some, sym, ap, ◌∙◌, subst, inl, inr, ⊎_elim, arith, length-set, get_or-set_other, get_or-set_same}
 use lib.ListN.{length-map}
 use lib.Seq.{map-set}
 use borrow.Author.Tests.{both_ways}
@@ -7,7 +7,7 @@ use Rattle.std.proofs.lemmas.Bool.{cases_eq, cases_Bool}
 use Rattle.chains.specs.Chains.{seek, has, chain, in_use}
 use Rattle.chains.specs.Tables.{Table, marks, held, Sound}
 use Rattle.stores.proofs.Laws.{Lawful}
-use Rattle.chains.proofs.Moves.{Moved, has_some, there, suffix}
+use Rattle.chains.proofs.Moves.{Moved, has_some, suffix}
 use Rattle.chains.proofs.Shifts.{in_use_more}
 use Rattle.chains.proofs.Seeks.{seek_has, seek_none, seek_same, held_set_same, held_set_other, at, marks_eq}
 

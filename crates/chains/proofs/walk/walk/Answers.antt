@@ -51,7 +51,7 @@ loop-i-preserved g c =
     let n = ap (run f ls) (sym c.next_of-at-in-loop-i.ensures) in (
       c.loop-i.invariant.0 ∙ seek_turn _ _ ls ms at l c.if-at-eq0.false ∙ ap (λ (b : Bool). cond b at (seek ms rest)) m ∙ ap (seek ms) n,
       c.loop-i.invariant.1 ∙ before_turn _ _ ls ms p at l c.if-at-eq0.false ∙ ap (λ (b : Bool). cond b p (before at ms rest)) m ∙ ap (before at ms) n,
-      c.next_of-at-in-loop-i.type-inv,
+      c.next_of-at-in-loop-i.type_inv,
     )
 
 pub returns : goal.returns

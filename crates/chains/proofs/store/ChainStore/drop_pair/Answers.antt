@@ -17,7 +17,7 @@ returns g c =
     let b = c.drop_in.result in
     let a = c.drop_in.ensures.answer in
     let e = c.drop_in.ensures.after in
-    let F : List (Node g.row.K.Denot g.row.V.Denot) → Chain g.row.K.Denot g.row.V.Denot = λ ms. record { nodes = record { ref_ptr = r.ptr; ghost_name = r.name; now = ms } } in
+    let F : List (Node g.row.K.Denot g.row.V.Denot) → Chain g.row.K.Denot g.row.V.Denot = λ ms. record { nodes = record { ref_ptr = r.ref_ptr; ghost_name = r.ghost_name; now = ms } } in
     record {
       sound = drop_stays al bk L ns ns' k b a e;
       capacity = drop_room al bk L ns ns' k b a e;

@@ -18,7 +18,7 @@ returns g c =
     let k = c.args.k in
     let v = c.args.v in
     let e = c.put_in.ensures.after in
-    let F : List (Node g.row.K.Denot g.row.V.Denot) → Chain g.row.K.Denot g.row.V.Denot = λ ms. record { nodes = record { ref_ptr = r.ptr; ghost_name = r.name; now = ms } } in
+    let F : List (Node g.row.K.Denot g.row.V.Denot) → Chain g.row.K.Denot g.row.V.Denot = λ ms. record { nodes = record { ref_ptr = r.ref_ptr; ghost_name = r.ghost_name; now = ms } } in
     record {
       sound = put_stays al bk L ns ns' k v e;
       capacity = put_room al bk L ns ns' k v e;
