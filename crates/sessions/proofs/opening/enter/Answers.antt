@@ -12,5 +12,5 @@ returns-in-Ok g c =
     record {
       led = search rules;
       sound = search rules;
-      brief = λ few. subst (λ (r : Result Form TemplateFault). length (by_template d c.args.word.now r).text ≤ 160) c.in-Ok.ensures.answer (subst (λ n. length (line (template c.args.word.now n)) ≤ 160) c.total.ensures.value (template_short c.args.word.now c.total.result few c.total.type-inv));
+      brief = λ few. subst (λ (r : Result Form TemplateFault). length (by_template d c.args.word.now r).text ≤ 160) c.in-Ok.ensures.answer (subst (λ n. length (line (template c.args.word.now n)) ≤ 160) c.total.ensures.value (template_short c.args.word.now c.total.result few c.total.type_inv));
     }
