@@ -28,7 +28,7 @@ pub(crate) fn find_opening<U: Store<TallyKey, u64>>(
 ) -> Found
     requires tallies { U.Store.sound tallies.old }
     requires room { 4096 * (length (pieces 10 input.now) + 1) ≤ length out.old }
-    ensures found { Finds (awaited (new_desk T.Store.pairs U.Store.capacity tallies.old 0) (pieces 10 input.now)) (tallies_in (U.Store.pairs tallies.new) (U.Store.capacity tallies.new)) input.now out.old out.new result }
+    ensures found { Finds (awaited (new_desk U.Store.pairs U.Store.capacity tallies.old 0) (pieces 10 input.now)) (tallies_in (U.Store.pairs tallies.new) (U.Store.capacity tallies.new)) input.now out.old out.new result }
     ensures tallies { U.Store.sound tallies.new }
 {
     let mut session = NewSession::start();
