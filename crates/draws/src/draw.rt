@@ -8,8 +8,8 @@ use sources::source::Source;
 
 // The next number of a source, which is given from then on, and its name; none where the source has no more.
 pub fn draw_name<S: Source>(source: &mut S) -> Option<(u64, Name)>
-    ensures answer { shown result ≡ next (stock source.old) }
-    ensures after { stock source.new ≡ drawn (stock source.old) }
+    ensures answer { shown result ≡ next (S.Source.stock source.old) }
+    ensures after { S.Source.stock source.new ≡ drawn (S.Source.stock source.old) }
 {
     match source.draw() {
         Some(n) => Some((n, source.name(n))),

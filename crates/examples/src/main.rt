@@ -3,10 +3,10 @@
 
 mod beginnings;
 mod lengths;
+mod lines;
 mod places;
 mod published;
 mod refusals;
-mod reports;
 mod rolls;
 mod room;
 mod slips;

@@ -1,5 +1,5 @@
 // The 64 places for holds, the 64 for names taken back, and the 512 texts: the last of each is taken, and one more is refused.
-use crate::reports::{answer, count_lines, first_line, text_of};
+use crate::lines::{answer, count_lines, first_line, text_of};
 use crate::tally::Tally;
 use anyhow::anyhow;
 use names::template::Template;

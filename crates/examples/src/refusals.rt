@@ -1,5 +1,5 @@
 // The refusals that a line of a session can meet. (12, 16 and 24 are met where places and texts run out.)
-use crate::reports::{answer, first_line, text_of};
+use crate::lines::{answer, first_line, text_of};
 use crate::tally::Tally;
 use serving::serve::serve;
 

@@ -1,5 +1,5 @@
 // Three slips seen in minters, and that none of them is made here.
-use crate::reports::{answer, text_of};
+use crate::lines::{answer, text_of};
 use crate::spoils::Spoils;
 use crate::tally::Tally;
 use anyhow::anyhow;

@@ -1,5 +1,5 @@
 // The worked session: a name is held, passed over, released and minted, and another is taken back and minted again.
-use crate::reports::{answer, text_of};
+use crate::lines::{answer, text_of};
 use crate::tally::Tally;
 
 const INPUT: &str = "template 99999/q7.sdk
