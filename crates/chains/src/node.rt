@@ -1,5 +1,5 @@
 // A record of the chain table.
-#[derive(Clone, Copy)]
+#[derive(Clone, Copy, PartialEq, Eq, Debug)]
 pub struct Node<K, V> {
     pub key: K,
     pub value: V,

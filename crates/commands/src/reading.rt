@@ -3,7 +3,7 @@ ghost use Rattle.std.specs.Prelude.{◌≡◌, ◌≤◌, length, IfOk, IfErr, O
 ghost use Rattle.commands.specs.Forms.{Said, spoken, reads, said, said_read};
 ghost use Rattle.commands.specs.Refusals.{IsCommand, Refused};
 ghost use Rattle.commands.specs.Spans.{Inside, cut, cut_read};
-ghost use Rattle.commands.specs.Spelling.{Reading};
+ghost use Rattle.commands.specs.Spelling.{Spelt, Fair, Reading};
 
 use crate::command::Command;
 use crate::fault::CommandFault;
@@ -57,8 +57,9 @@ fn cut_out<'a>(line: &'a [u8], spans: Spans) -> Command<'a>
 // The command that a line of an open session says: what is read is a fair command typed out, and each fair command that is typed out is read. Another line is refused at its first wrong word.
 pub fn read_command<'a>(line: &'a [u8]) -> Result<Command<'a>, CommandFault>
     ensures value { said_read result ≡ reads line.now }
-    ensures spelt { IfOk result (λ x. Reading line.now (said x)) }
-    ensures accepted { (x : Said) → Reading line.now x → said_read result ≡ Ok x }
+    ensures spelt { IfOk result (λ x. Spelt line.now (said x)) }
+    ensures accepted { (x : Said) → Fair x → Spelt line.now x → length line.now ≤ 120 → said_read result ≡ Ok x }
+    ensures reading { IfOk result (λ x. Reading line.now (said x)) }
     ensures first { IfErr result (λ fault. Refused IsCommand line.now fault) }
 {
     if line.len() > LONGEST {

@@ -1,5 +1,5 @@
 // A record of the log.
-#[derive(Clone, Copy)]
+#[derive(Clone, Copy, PartialEq, Eq, Debug)]
 pub enum Entry<K, V> {
     Put(K, V),
     Dropped(K),

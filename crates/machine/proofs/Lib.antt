@@ -4,6 +4,7 @@ pub mod Places
 pub mod Limits
 pub mod Keeps
 pub mod Runs
+pub mod Outcomes
 mod Checks
 mod Effects
 mod Readings

@@ -268,7 +268,13 @@ said f (Ok n) = f n
 said f (Err e) = Refused e
 
 abbrev pub step : Machine → Asked → Machine × Answer
-step m c = ((outcome m c).0, said (answer c) (outcome m c).1)
+step m Mint = ((mint m).0, said (λ n. Minted n) (mint m).1)
+step m (Hold t) = ((hold m t).0, said (λ n. Held n) (hold m t).1)
+step m (Release t) = ((release m t).0, said (λ n. Released n) (release m t).1)
+step m (Queue t d) = ((queue m t d).0, said (λ n. Queued n) (queue m t d).1)
+step m (Tick s) = ((tick m s).0, said (λ n. Ticked n) (tick m s).1)
+step m (Bind t e w) = ((bind m t e w).0, said (λ n. Bound n) (bind m t e w).1)
+step m (Purge t e) = ((purge m t e).0, said (λ n. Purged n) (purge m t e).1)
 
 -- after a list of calls, the first call first
 abbrev pub final : Machine → List Asked → Machine

@@ -4,6 +4,8 @@ use Rattle.machine.specs.History.{accepted}
 use Rattle.machine.specs.Machine.{answer, said}
 use Rattle.machine.specs.declared.fault.RegisterFault.{RegisterFault}
 use Rattle.machine.proofs.Keeps.{kept_by}
+use Rattle.minter.specs.Meaning.{meaning}
+use Rattle.machine.proofs.Outcomes.{stepped, step_answer}
 use Rattle.minter.proofs.register.Register.serve.Goals as goal
 
 -- an answer accepts exactly where the outcome has no fault
@@ -21,10 +23,11 @@ pub returns : goal.returns
 returns g c =
     let came = c.outcome-outcome.ensures in
     let call = asked c.args.call.now in
+    let m = meaning g.S.Source.stock g.T.Store.pairs g.T.Store.capacity c.args.self.now in
     record {
-      after = came.after;
-      answer = λ s k. c.answer.ensures ∙ ap (said (answer call)) (came.answer s k);
+      after = λ s k. came.after s k ∙ sym (stepped m call);
+      answer = λ s k. c.answer.ensures ∙ ap (said (answer call)) (came.answer s k) ∙ sym (step_answer m call);
       refusal = λ s k no. came.refusal s k (sym (accepts call c.outcome-outcome.result) ∙ ap accepted (sym c.answer.ensures) ∙ no);
       store = came.store;
-      sound = λ s k. kept_by call _ _ (came.after s k) s;
+      sound = λ s k. kept_by call _ _ (came.after s k ∙ sym (stepped m call)) s;
     }

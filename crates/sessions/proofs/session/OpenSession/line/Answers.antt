@@ -20,5 +20,5 @@ returns g c =
       tallies = frame.tallies;
       sound = frame.sound;
       brief = λ s k. subst (λ (x : Result Said CommandFault). length (framed free (at c.args.register.now c.args.tallies.now c.args.self) x).text ≤ 4096) read.value
-          (frame.brief s k (read_short c.args.text.now (meaning g.S.Source.stock g.T.Store.pairs g.T.Store.capacity c.args.register.now) c.read_command.result read.spelt s.lawful.short (g.T.Store.pairs c.args.register.now.texts) refl));
+          (frame.brief s k (read_short c.args.text.now (meaning g.S.Source.stock g.T.Store.pairs g.T.Store.capacity c.args.register.now) c.read_command.result read.reading s.lawful.short (g.T.Store.pairs c.args.register.now.texts) refl));
     }
