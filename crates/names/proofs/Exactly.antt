@@ -1,7 +1,7 @@
 -- The reader reads exactly the grammar, and refuses at the first wrong byte. Nothing is assumed.
-use Rattle.std.proofs.Common.{◌≡◌, ℕ, ◌+◌, ◌<◌, ◌≤◌, Bool, true, false, cond, ◌&&◌, eqb, ltb, List, [], ◌∷◌, ◌++◌, length, get_or, take, drop, Ok, Err, Result, sym, refl, ap, ◌∙◌, subst, append_assoc, append-nil, arith, rules}
+use Rattle.std.proofs.Common.{◌≡◌, ℕ, ◌+◌, ◌≤◌, Bool, true, false, cond, ◌&&◌, eqb, ltb, List, [], ◌∷◌, ◌++◌, length, get_or, take, drop, Ok, Err, Result, sym, refl, ap, ◌∙◌, subst, append_assoc, append-nil, arith, rules}
 use Rattle.std.proofs.lemmas.List.{length-append, length_push, take_at, drop_at, get_or_at}
-use Rattle.std.proofs.lemmas.Bool.{ltb-true, and_parts, and_from}
+use Rattle.std.proofs.lemmas.Bool.{ltb-true}
 use Rattle.names.specs.declared.fault.TemplateFault.{TemplateFault}
 use Rattle.names.specs.declared.fault.TemplateFault.TheVariants.{Naan, Shoulder, Letter, Mask, Early}
 use Rattle.names.specs.declared.template.parts.Part.{Part}
@@ -10,10 +10,10 @@ use Rattle.names.specs.declared.template.parts.Reader.{Reader}
 use Rattle.names.specs.declared.template.parts.Shape.{Shape}
 use Rattle.names.specs.Forms.{Form, spelled, closing, digit, order, place, all_of, Good}
 use Rattle.names.specs.Reader.{of_29, reader, next, next_in, finish_in, after, walk, read_shape, form_of, formed, read_template}
-use Rattle.names.specs.Grammar.{Grammatical, Is, Begins, Wrong, Unfinished, Within, Refused, Exact, no_dot}
+use Rattle.names.specs.Grammar.{Grammatical, Is, Begins, Wrong, Within, Refused, Exact, no_dot}
 use Rattle.names.proofs.Bytes.{all_as, all_both}
 use Rattle.names.proofs.Goes.{shape, shape_in, goes}
-use Rattle.names.proofs.Seen.{Front, Dotted, Masked, Shut, Seen, Made, After, seen_on, form_seen, grammatical, open_is, shut_is, begins}
+use Rattle.names.proofs.Seen.{Front, Masked, Seen, Made, After, seen_on, form_seen, grammatical, open_is, shut_is, begins}
 
 -- after the bytes bs the reader is s, whatever follows
 abbrev Reached : Reader → List ℕ → Type 0

@@ -1,5 +1,5 @@
 -- Worked examples, computed from the definitions.
-use Rattle.std.proofs.Common.{◌≡◌, true, false, [], Ok, Err, codes, refl}
+use Rattle.std.proofs.Common.{◌≡◌, true, [], Ok, Err, codes, refl}
 use Rattle.names.specs.Check.{check_char}
 use Rattle.names.specs.Forms.{Form}
 use Rattle.names.specs.Naming.{total, with_parts, name_of}

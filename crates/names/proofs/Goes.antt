@@ -1,15 +1,13 @@
 -- Each text of the grammar is read, with the lengths of its parts. Nothing is assumed.
-use Rattle.std.proofs.Common.{◌≡◌, ℕ, ◌+◌, ◌<◌, ◌≤◌, Bool, true, false, cond, ltb, List, [], ◌∷◌, ◌++◌, length, Ok, Err, Result, sym, refl, ap, ◌∙◌, append_assoc, add-zero, arith, rules}
+use Rattle.std.proofs.Common.{◌≡◌, ℕ, ◌+◌, ◌<◌, ◌≤◌, Bool, true, false, cond, List, [], ◌∷◌, ◌++◌, length, Ok, Err, sym, ap, ◌∙◌, append_assoc, add-zero, arith, rules}
 use Rattle.std.proofs.lemmas.Bool.{lt-ltb, and_parts}
-use Rattle.names.specs.declared.fault.TemplateFault.{TemplateFault}
 use Rattle.names.specs.declared.fault.TemplateFault.TheVariants.{Early}
-use Rattle.names.specs.declared.template.parts.Part.{Part}
 use Rattle.names.specs.declared.template.parts.Part.TheVariants as part
 use Rattle.names.specs.declared.template.parts.Reader.{Reader}
 use Rattle.names.specs.declared.template.parts.Shape.{Shape}
 use Rattle.names.specs.Alphabet.{is_of_29}
 use Rattle.names.specs.Forms.{Form, spelled, closing, digit, order, place, all_of}
-use Rattle.names.specs.Reader.{of_29, reader, next, after, walk, finish, read_shape}
+use Rattle.names.specs.Reader.{of_29, reader, next, after, walk, read_shape}
 use Rattle.names.specs.Grammar.{Grammatical}
 use Rattle.names.proofs.Bytes.{all_as, reader_29}
 

@@ -1,6 +1,6 @@
 -- A name with one byte changed, or with two unequal bytes exchanged, is refused where there is a check character.
-use Rattle.std.proofs.Common.{◌≡◌, ℕ, zero, suc, ◌+◌, ◌-◌, ◌*◌, ◌/◌, ◌%◌, ◌^◌, ◌<◌, ◌≤◌, Bool, true, false, ◌≢◌, List, [], ◌∷◌, ◌++◌, length, get_or, set, is_ok, Ok, Err, Result, sym, refl, ap, ◌∙◌, subst, ⊎_elim, mod-lt, div-lt_iff_lt-mul, arith}
-use Rattle.std.proofs.lemmas.List.{get_or_append_left, get_or-append_right, get_or_at, get_or-set_same, get_or-set_other, length-set, length-append, length_push, set-append_left, set_at, set_comm, same_from_push}
+use Rattle.std.proofs.Common.{◌≡◌, ℕ, zero, suc, ◌+◌, ◌-◌, ◌/◌, ◌%◌, ◌<◌, ◌≤◌, true, false, ◌≢◌, List, [], ◌∷◌, ◌++◌, length, get_or, set, is_ok, Ok, Err, Result, sym, refl, ap, ◌∙◌, subst, ⊎_elim, mod-lt, div-lt_iff_lt-mul, arith}
+use Rattle.std.proofs.lemmas.List.{get_or_append_left, get_or-append_right, get_or_at, get_or-set_same, get_or-set_other, length-set, length_push, set-append_left, set_at, set_comm, same_from_push}
 use Rattle.std.proofs.lemmas.Bool.{cases_lt, cases_order}
 use Rattle.names.specs.Alphabet.{char_of, value_of}
 use Rattle.names.specs.Check.{weighted, check_char}
@@ -10,7 +10,7 @@ use Rattle.names.specs.Naming.{total, digits, body, ended, name_of}
 use Rattle.names.specs.Texts.{swapped}
 use Rattle.names.specs.Validate.{reads}
 use Rattle.names.specs.declared.fault.NameFault.{NameFault}
-use Rattle.names.proofs.Numbers.{total_some, length_digits}
+use Rattle.names.proofs.Numbers.{total_some}
 use Rattle.names.proofs.Sums.{change_found, exchange_found, closing_found}
 use Rattle.names.proofs.Undone.{value_back, position_takes, named, names, nameless, readings, apart, short, total_few, length_body}
 

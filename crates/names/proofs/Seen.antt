@@ -1,16 +1,16 @@
 -- What a reader has seen, part by part, and what a byte more makes of it. Nothing is assumed.
 use Rattle.std.proofs.Common.{◌≡◌, ℕ, zero, suc, ◌+◌, ◌-◌, ◌<◌, ◌≤◌, Bool, true, false, cond, ◌&&◌, eqb, ltb, List, [], ◌∷◌, ◌++◌, length, Ok, Err, Result, sym, refl, ap, ◌∙◌, subst, append_assoc, append-nil, arith}
-use Rattle.std.proofs.lemmas.List.{length-append, length_push}
-use Rattle.std.proofs.lemmas.Bool.{ltb-true, ltb-false, eqb-true, and_parts, and_from}
+use Rattle.std.proofs.lemmas.List.{length_push}
+use Rattle.std.proofs.lemmas.Bool.{ltb-true, ltb-false, eqb-true, and_parts}
 use Rattle.names.specs.declared.fault.TemplateFault.{TemplateFault}
-use Rattle.names.specs.declared.fault.TemplateFault.TheVariants.{Naan, Shoulder, Letter, Mask, Early}
+use Rattle.names.specs.declared.fault.TemplateFault.TheVariants.{Naan, Shoulder, Letter, Mask}
 use Rattle.names.specs.declared.template.parts.Part.{Part}
 use Rattle.names.specs.declared.template.parts.Part.TheVariants as part
 use Rattle.names.specs.declared.template.parts.Reader.{Reader}
 use Rattle.names.specs.Alphabet.{is_of_29}
-use Rattle.names.specs.Forms.{Form, spelled, closing, digit, order, place, all_of}
+use Rattle.names.specs.Forms.{Form, spelled, digit, order, place, all_of}
 use Rattle.names.specs.Reader.{of_29, reader, next_in}
-use Rattle.names.specs.Grammar.{Grammatical, Is, Begins}
+use Rattle.names.specs.Grammar.{Grammatical, Begins}
 use Rattle.names.proofs.Bytes.{all_push, all_as, grammar_29}
 
 -- five digits, a slash, and sh of the 29

@@ -1,6 +1,6 @@
 -- What a template's ghost facts give, and what gives them. Nothing is assumed.
-use Rattle.std.proofs.Common.{◌≡◌, ℕ, ◌+◌, ◌-◌, ◌<◌, ◌≤◌, Bool, true, false, cond, not, ◌&&◌, eqb, List, [], ◌∷◌, ◌++◌, length, get_or, take, drop, replicate, Ok, Err, Result, sym, refl, ap, ◌∙◌, subst, arith}
-use Rattle.std.proofs.lemmas.List.{length-append, length-take-le, take_at, take-take, get_or-take, drop-take}
+use Rattle.std.proofs.Common.{◌≡◌, ℕ, ◌+◌, ◌-◌, ◌≤◌, Bool, true, false, cond, not, ◌&&◌, eqb, List, ◌∷◌, ◌++◌, length, get_or, take, drop, replicate, Ok, Err, Result, sym, refl, ap, ◌∙◌, subst, arith}
+use Rattle.std.proofs.lemmas.List.{length-append, take_at, take-take, get_or-take, drop-take}
 use Rattle.std.proofs.lemmas.Bool.{eqb-true, eq-eqb, and_parts, and_from}
 use Rattle.names.specs.declared.fault.TemplateFault.{TemplateFault}
 use Rattle.names.specs.declared.template.parts.Shape.{Shape}
@@ -8,9 +8,9 @@ use Rattle.names.specs.declared.template.Template.{Template}
 use Rattle.names.specs.Forms.{Form, spelled, closing, Good}
 use Rattle.names.specs.Reader.{read_shape, reads_as, form_of, formed, read_template}
 use Rattle.names.specs.Grammar.{Grammatical, Is, Exact}
-use Rattle.names.specs.Templates.{form, told, padded}
+use Rattle.names.specs.Templates.{form, padded}
 use Rattle.names.proofs.Goes.{shape_in}
-use Rattle.names.proofs.Exactly.{Complete, read_complete, prefix_long, complete_is, good_from, exact}
+use Rattle.names.proofs.Exactly.{read_complete, prefix_long, complete_is, good_from, exact}
 
 same_bool : (a b : Bool) → cond a b (not b) ≡ true → a ≡ b
 same_bool true true e = refl

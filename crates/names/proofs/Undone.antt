@@ -1,10 +1,9 @@
 -- Names and readings undo each other.
-use Rattle.std.proofs.Common.{◌≡◌, ℕ, zero, suc, ◌+◌, ◌-◌, ◌*◌, ◌/◌, ◌%◌, ◌^◌, ◌<◌, ◌≤◌, Bool, true, false, cond, ◌&&◌, ◌||◌, eqb, ltb, leb, List, [], ◌∷◌, ◌++◌, map, length, get_or, take, is_some, Some, None, Ok, Err, Option, Result, unwrap_or, sym, refl, ap, ◌∙◌, subst, ⊎_elim, add-zero, add-suc, mod-lt, mul_assoc, div-lt_iff_lt-mul, add-mul, suc-add, div-add-mod', mul-one, arith}
+use Rattle.std.proofs.Common.{◌≡◌, ℕ, suc, ◌+◌, ◌-◌, ◌*◌, ◌/◌, ◌%◌, ◌^◌, ◌<◌, ◌≤◌, Bool, true, false, cond, ◌&&◌, ◌||◌, eqb, ltb, leb, List, [], ◌∷◌, ◌++◌, map, length, get_or, take, is_some, Some, None, Ok, Err, Option, Result, unwrap_or, sym, refl, ap, ◌∙◌, subst, ⊎_elim, add-zero, mod-lt, mul_assoc, div-lt_iff_lt-mul, add-mul, div-add-mod', arith}
 use native.Mathlib.Nat.{pow-le-pow_right}
 use lib.Arith.{digits_lt, digits_div, digits_mod}
 use Rattle.std.proofs.lemmas.List.{append_assoc, append-nil, length-append, length-map, length_push, take_at, get_or_at}
 use Rattle.std.proofs.lemmas.Bool.{cases_Bool, cases_lt, cond-true, cond-false, and_parts, eqb-true, eq-eqb, leb-true, or_cases, lt-ltb, le-ltb, ltb-true}
-use Rattle.std.proofs.lemmas.Bool.Decides.{nat_tests}
 use Rattle.names.specs.Alphabet.{char_of, value_in, value_of, is_of_29}
 use Rattle.names.specs.Check.{weighted, check_char}
 use Rattle.names.specs.Forms.{Form}
@@ -13,9 +12,9 @@ use Rattle.names.specs.Validate.{position, last_slot, slots, fits, counted, walk
 use Rattle.names.specs.declared.fault.NameFault.{NameFault}
 use Rattle.names.specs.declared.fault.NameFault.TheVariants.{Length, Byte, Check}
 use Rattle.names.specs.declared.slot.Slot.{Slot}
-use Rattle.names.specs.declared.slot.Slot.TheVariants.{Fixed, Digit, Letter, Closing}
+use Rattle.names.specs.declared.slot.Slot.TheVariants.{Fixed, Digit, Letter}
 use Rattle.names.proofs.Characters.{below, below_at, value_small, char_of_value, value_of_char}
-use Rattle.names.proofs.Numbers.{base_some, total_some, total_small, length_digits}
+use Rattle.names.proofs.Numbers.{total_some, total_small, length_digits}
 use Rattle.names.proofs.Slots.{reads_closed}
 
 -- a character of the 29 and its value

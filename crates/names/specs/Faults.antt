@@ -1,5 +1,4 @@
 -- Number, layer and place of the faults of templates and names.
-use Rattle.names.specs.declared.fault.Layer.{Layer}
 use Rattle.names.specs.declared.fault.Layer.TheVariants as layer
 use Rattle.names.specs.declared.fault.Refusal.{Refusal}
 use Rattle.names.specs.declared.fault.TemplateFault.{TemplateFault}

@@ -3,7 +3,7 @@
 -- all_of: every byte is of one kind; are_positions: every byte is d or e
 -- Form: a template by its parts; spelled: its text
 -- Good: the lengths of a form's prefix and mask, and the bytes of its mask
-use Rattle.std.specs.Prelude.{◌≡◌, ℕ, ◌≤◌, Bool, true, false, cond, ◌&&◌, ◌||◌, List, [], ◌∷◌, ◌++◌, length, ◌==◌, nat_le}
+use Rattle.std.specs.Prelude.{◌≡◌, ℕ, ◌≤◌, Bool, true, cond, ◌&&◌, ◌||◌, List, [], ◌∷◌, ◌++◌, length, ◌==◌, nat_le}
 
 -- 0 to 9
 abbrev pub digit : ℕ → Bool

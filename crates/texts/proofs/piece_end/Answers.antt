@@ -1,5 +1,4 @@
-use Rattle.std.proofs.Common.{◌≡◌, ◌+◌, ◌<◌, eqb, length, get_or, drop, ap, arith, rules, eq-eqb}
-use Rattle.std.proofs.lemmas.Bool.{ne_eqb}
+use Rattle.std.proofs.Common.{◌≡◌, ◌+◌, length, drop, ap, arith, rules}
 use Rattle.texts.specs.Pieces.{upto}
 use Rattle.texts.proofs.Cuts.{cut_at, upto_all, upto_mark, upto_more}
 use Rattle.texts.proofs.piece_end.Goals as goal

@@ -1,4 +1,4 @@
-use Rattle.std.proofs.Common.{◌≡◌, ℕ, ◌+◌, ◌*◌, ◌/◌, ◌%◌, ◌<◌, get_or, drop, sym, ap, ◌∙◌, mod-lt, mul_assoc, add-mul, arith}
+use Rattle.std.proofs.Common.{◌≡◌, ℕ, ◌+◌, ◌*◌, ◌/◌, ◌%◌, get_or, drop, sym, ap, ◌∙◌, mul_assoc, add-mul, arith}
 use Rattle.std.proofs.lemmas.List.{at_drop_more, at_drop_all}
 use Rattle.names.specs.Alphabet.{char_of, value_of}
 use Rattle.names.specs.Check.{weighted}

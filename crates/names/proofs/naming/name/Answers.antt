@@ -1,8 +1,8 @@
-use Rattle.std.proofs.Common.{◌≡◌, ℕ, ◌+◌, ◌-◌, ◌<◌, Bool, true, false, cond, ltb, List, [], ◌∷◌, ◌++◌, length, take, set, sym, refl, ap, ◌∙◌, arith}
+use Rattle.std.proofs.Common.{◌≡◌, ℕ, ◌+◌, ◌-◌, ◌<◌, Bool, true, cond, List, [], ◌∷◌, ◌++◌, length, take, set, sym, ap, ◌∙◌, arith}
 use Rattle.std.proofs.lemmas.List.{take_more_set}
 use Rattle.std.proofs.lemmas.Bool.{lt-ltb}
 use Rattle.names.specs.Check.{check_char}
-use Rattle.names.specs.Naming.{total, digits, body, ended, with_parts, name_of}
+use Rattle.names.specs.Naming.{total, digits, ended, with_parts, name_of}
 use Rattle.names.proofs.naming.name.Goals as goal
 
 named : (p m : List ℕ) (check : Bool) (n : ℕ) → n < total m → name_of (with_parts p m check) n ≡ ended check (p ++ digits m n)

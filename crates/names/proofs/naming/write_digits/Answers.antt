@@ -1,6 +1,6 @@
-use Rattle.std.proofs.Common.{◌≡◌, ℕ, ◌+◌, ◌-◌, ◌<◌, ◌≤◌, List, ◌++◌, length, get_or, take, drop, set, sym, ap, ◌∙◌, subst, arith}
+use Rattle.std.proofs.Common.{◌≡◌, ℕ, ◌+◌, ◌-◌, ◌<◌, List, ◌++◌, length, take, drop, set, sym, ap, ◌∙◌, subst, arith}
 use Rattle.std.proofs.lemmas.List.{take_all, take-append-drop}
-use Rattle.names.specs.Naming.{base, total, digits}
+use Rattle.names.specs.Naming.{total, digits}
 use Rattle.names.specs.Texts.{written}
 use Rattle.names.proofs.Numbers.{write_last}
 use Rattle.names.proofs.naming.write_digits.Goals as goal

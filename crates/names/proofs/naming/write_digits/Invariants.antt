@@ -1,4 +1,4 @@
-use Rattle.std.proofs.Common.{◌≡◌, ◌+◌, ◌<◌, ◌≤◌, ◌++◌, length, take, drop}
+use Rattle.std.proofs.Common.{◌≡◌, ◌+◌, ◌<◌, ◌≤◌, length, take}
 use Rattle.names.specs.Naming.{total, digits}
 use Rattle.names.specs.Texts.{written}
 use Rattle.names.proofs.naming.write_digits.Given as goal

@@ -1,9 +1,8 @@
-use Rattle.std.proofs.Common.{◌≡◌, ℕ, ◌-◌, Bool, true, cond, length, Ok, Err, Result, sym, ap, ◌∙◌}
+use Rattle.std.proofs.Common.{◌≡◌, ◌-◌, length, Ok, Err, sym, ap, ◌∙◌}
 use Rattle.std.proofs.lemmas.Result.{err_from_is_err_and}
-use Rattle.std.proofs.lemmas.Bool.{cond-true, cond-false}
-use Rattle.names.specs.Validate.{slots, closes, closed, reads}
+use Rattle.std.proofs.lemmas.Bool.{cond-true}
+use Rattle.names.specs.Validate.{closes, closed, reads}
 use Rattle.names.specs.Naming.{with_parts}
-use Rattle.names.specs.declared.fault.NameFault.{NameFault}
 use Rattle.names.specs.declared.fault.NameFault.TheVariants.{Check}
 use Rattle.names.proofs.Slots.{reads_whole}
 use Rattle.names.proofs.validate.validate.Goals as goal

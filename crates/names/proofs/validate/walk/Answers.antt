@@ -1,4 +1,4 @@
-use Rattle.std.proofs.Common.{◌≡◌, ℕ, suc, ◌+◌, ◌-◌, ◌*◌, ◌^◌, ◌<◌, ◌≤◌, Bool, true, false, cond, List, [], length, get_or, drop, Some, None, Ok, Err, Option, sym, refl, ap, ◌∙◌, subst, ⊎_elim, pow-suc, arith}
+use Rattle.std.proofs.Common.{◌≡◌, ℕ, suc, ◌+◌, ◌-◌, ◌^◌, ◌<◌, ◌≤◌, Bool, true, false, cond, List, [], length, get_or, drop, Some, None, Err, Option, sym, refl, ap, ◌∙◌, subst, ⊎_elim, pow-suc, arith}
 use native.Mathlib.Nat.{pow-le-pow_right}
 use Rattle.std.proofs.lemmas.List.{drop_all}
 use Rattle.std.proofs.lemmas.Bool.{cases_lt, cond-true, cond-false}
@@ -6,7 +6,7 @@ use Rattle.names.specs.Naming.{with_parts}
 use Rattle.names.specs.Validate.{slots, fits, counted, walked}
 use Rattle.names.specs.declared.fault.NameFault.TheVariants.{Byte}
 use Rattle.names.specs.declared.slot.Slot.{Slot}
-use Rattle.names.specs.declared.slot.Slot.TheVariants.{Fixed, Closing}
+use Rattle.names.specs.declared.slot.Slot.TheVariants.{Closing}
 use Rattle.names.proofs.Slots.{in_prefix, length_slots, walked_more, walked_end, counted_small}
 use Rattle.names.proofs.validate.walk.Goals as goal
 

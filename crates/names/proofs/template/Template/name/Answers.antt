@@ -1,7 +1,5 @@
-use Rattle.std.proofs.Common.{◌≡◌, length, ap, ◌∙◌, arith, rules}
-use Rattle.names.specs.Naming.{with_parts, name_of}
+use Rattle.std.proofs.Common.{length, ap, arith, rules}
 use Rattle.names.specs.Templates.{form}
-use Rattle.names.specs.Texts.{text_of}
 use Rattle.names.proofs.Guarded.{undo}
 use Rattle.names.proofs.Templates.{good}
 use Rattle.names.proofs.template.Template.name.Goals as goal

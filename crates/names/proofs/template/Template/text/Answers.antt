@@ -1,4 +1,4 @@
-use Rattle.std.proofs.Common.{◌≡◌, rules}
+use Rattle.std.proofs.Common.{rules}
 use Rattle.names.proofs.Templates.{form_own}
 use Rattle.names.proofs.template.Template.text.Goals as goal
 

@@ -1,7 +1,5 @@
-use Rattle.std.proofs.Common.{◌≡◌, length, ap, ◌∙◌, arith, rules}
-use Rattle.names.specs.Naming.{with_parts}
+use Rattle.std.proofs.Common.{length, ap, arith, rules}
 use Rattle.names.specs.Templates.{form}
-use Rattle.names.specs.Validate.{reads}
 use Rattle.names.proofs.Guarded.{guard}
 use Rattle.names.proofs.Templates.{good}
 use Rattle.names.proofs.template.Template.validate.Goals as goal

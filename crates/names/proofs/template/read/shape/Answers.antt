@@ -1,4 +1,4 @@
-use Rattle.std.proofs.Common.{◌≡◌, sym, ◌∙◌, arith, rules}
+use Rattle.std.proofs.Common.{sym, ◌∙◌, arith, rules}
 use Rattle.names.proofs.Walks.{one_on, ended}
 use Rattle.names.proofs.template.read.shape.Goals as goal
 
