@@ -5,7 +5,7 @@ use Rattle.sources.specs.Stock.{is_foreign}
 use Rattle.sources.specs.declared.fault.SourceFault.TheVariants.{Foreign}
 use Rattle.stores.specs.declared.text.Element.{Element}
 use Rattle.machine.specs.Names.{bare}
-use Rattle.machine.specs.Machine.{Machine, Outcome, Check, tried, on_name, on_element, ◌⇒◌}
+use Rattle.machine.specs.Machine.{Machine, Outcome, Check, tried, on_name, on_element}
 use Rattle.machine.specs.declared.fault.RegisterFault.{RegisterFault}
 use Rattle.machine.specs.declared.fault.RegisterFault.TheVariants.{Name, Source, ElementWord}
 

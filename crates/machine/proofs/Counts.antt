@@ -1,8 +1,8 @@
 -- Counting in lists of numbers and of due numbers.
-use Rattle.std.proofs.Common.{◌≡◌, ℕ, suc, pred, ◌+◌, ◌<◌, ◌≤◌, Bool, true, false, cond, not, ◌&&◌, ◌||◌, eqb, ltb, leb, ◌⊎◌, List, [], ◌∷◌, ◌++◌, length, sym, refl, ap, ◌∙◌, inl, inr, arith}
+use Rattle.std.proofs.Common.{◌≡◌, ℕ, suc, pred, ◌+◌, ◌<◌, ◌≤◌, Bool, true, false, cond, ◌&&◌, eqb, ltb, ◌⊎◌, List, [], ◌∷◌, ◌++◌, length, refl, inr, arith}
 use Rattle.std.proofs.lemmas.Bool.Decides.{nat_tests}
-use Rattle.sources.specs.Lists.{count, has, first, rest}
-use Rattle.machine.specs.Machine.{front, back, added, without, outside, numbers, by, later_than, placed, in_order}
+use Rattle.sources.specs.Lists.{count, has}
+use Rattle.machine.specs.Machine.{front, back, added, without, numbers, by, later_than, placed, in_order}
 use Rattle.machine.specs.Runs.{second_of, all_after}
 use Rattle.machine.specs.declared.call.Due.{Due}
 

@@ -1,16 +1,14 @@
 -- What each call, once its checks are passed, makes of what waits, is on hold and has a text, number by number.
-use Rattle.std.proofs.Common.{◌≡◌, ℕ, suc, ◌+◌, ◌<◌, ◌≤◌, Bool, true, false, cond, not, ◌&&◌, ◌||◌, eqb, ltb, leb, ◌⊎◌, List, [], ◌∷◌, ◌++◌, length, is_some, Some, None, Option, sym, refl, ap, ◌∙◌, subst, inl, inr, arith}
+use Rattle.std.proofs.Common.{◌≡◌, ℕ, suc, ◌+◌, ◌≤◌, Bool, true, false, cond, not, ◌&&◌, eqb, ◌⊎◌, List, [], ◌∷◌, ◌++◌, is_some, Option, refl, arith}
 use Rattle.std.proofs.lemmas.Bool.{or_parts}
 use Rattle.std.proofs.lemmas.Bool.Decides.{nat_tests}
 use Rattle.sources.specs.Lists.{count, has}
-use Rattle.sources.specs.Stock.{Stock}
-use Rattle.stores.specs.Pairs.{turned}
-use Rattle.stores.specs.Texts.{index, same_element, same_key}
+use Rattle.stores.specs.Texts.{same_element, same_key}
 use Rattle.stores.specs.declared.text.Element.{Element}
 use Rattle.stores.specs.declared.text.Element.TheVariants.{Who, What, When, Where}
-use Rattle.machine.specs.Machine.{Machine, with_lists, with_held, with_queue, with_texts, holds, added, without, numbers, by, later_than, in_order, waiting, key, text_under, text_bound, queued_in, ticked_to, bound_in}
+use Rattle.machine.specs.Machine.{Machine, holds, added, without, numbers, by, in_order, waiting, key, text_under, text_bound, queued_in, ticked_to, bound_in}
 use Rattle.machine.specs.Runs.{second_of}
-use Rattle.machine.proofs.Counts.{has_tells, count_append, count_numbers_append, count_added, count_without, count_front, count_in_order, count_by, second_append, second_at_end}
+use Rattle.machine.proofs.Counts.{has_tells, count_append, count_numbers_append, count_added, count_without, count_in_order, count_by, second_append, second_at_end}
 
 -- how often a number stands in the four lists together
 abbrev pub total : Machine → ℕ → ℕ

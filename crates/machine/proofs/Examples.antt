@@ -1,21 +1,19 @@
 -- Worked examples, computed: a source of four numbers, number n named by its digit written twice; and 70 numbers, each named by one byte.
-use Rattle.std.proofs.Common.{◌≡◌, ℕ, zero, suc, ◌+◌, ◌-◌, ◌<◌, ◌≤◌, Bool, true, false, cond, not, ◌&&◌, ◌||◌, eqb, ltb, leb, List, [], ◌∷◌, ◌++◌, length, get_or, set, is_ok, Some, None, Ok, Err, Result, refl, arith, lit≤}
-use Rattle.std.proofs.lemmas.Bool.Decides.{nat_tests}
+use Rattle.std.proofs.Common.{◌≡◌, ℕ, zero, suc, ◌+◌, ◌-◌, Bool, true, false, cond, ◌&&◌, eqb, ltb, leb, List, [], ◌∷◌, length, Some, None, Ok, Err, Result, refl}
 use Rattle.names.specs.declared.fault.NameFault.{NameFault}
 use Rattle.names.specs.declared.fault.NameFault.TheVariants.{Length, Byte}
-use Rattle.sources.specs.Lists.{count, has}
-use Rattle.sources.specs.Stock.{Stock, Lawful}
+use Rattle.sources.specs.Stock.{Stock}
 use Rattle.sources.specs.declared.source.Stand.TheVariants.{Ahead, Given, Foreign}
 use Rattle.stores.specs.declared.fault.StoreFault.TheVariants.{Full}
 use Rattle.stores.specs.declared.text.Element.TheVariants.{Who, What}
 use Rattle.machine.specs.Machine.{fresh, answers}
-use Rattle.machine.specs.History.{History, waits, times_minted, queuings}
-use Rattle.machine.specs.Law.{Law, new}
+use Rattle.machine.specs.History.{waits, times_minted, queuings}
+use Rattle.machine.specs.Law.{new}
 use Rattle.machine.specs.Runs.{past}
 use Rattle.machine.specs.declared.call.Answer.{Answer}
 use Rattle.machine.specs.declared.call.Answer.TheVariants.{Minted, Held, Released, Queued, Ticked, Bound, Purged, Refused}
 use Rattle.machine.specs.Calls.{Asked, Mint, Hold, Release, Queue, Tick, Bind, Purge}
-use Rattle.machine.specs.declared.fault.RegisterFault.TheVariants.{Name, Store, Waits, IsHeld, HasText, HoldPlaces, Clock, Delay, ElementWord, LongText, NoText, NothingWaits, AllStopped, HeldAlready, NotHeld}
+use Rattle.machine.specs.declared.fault.RegisterFault.TheVariants.{Name, Store, Waits, HasText, HoldPlaces, Clock, Delay, ElementWord, NoText, NothingWaits, AllStopped, HeldAlready, NotHeld}
 
 abbrev pub twin : ℕ → List ℕ
 twin n = cond (ltb n 4) ((48 + n) ∷ (48 + n) ∷ []) []

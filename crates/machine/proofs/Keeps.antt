@@ -1,19 +1,16 @@
 -- Every call keeps a machine sound, and with it the limits of 64 and 64.
-use Rattle.std.proofs.Common.{◌≡◌, ℕ, suc, ◌+◌, ◌<◌, ◌≤◌, Bool, true, false, cond, not, ◌&&◌, ◌||◌, eqb, ltb, leb, List, [], ◌∷◌, ◌++◌, length, Some, None, Ok, Err, Option, sym, refl, ap, ◌∙◌, subst, arith, length-append}
+use Rattle.std.proofs.Common.{◌≡◌, ℕ, ◌+◌, ◌≤◌, Bool, true, false, cond, not, ◌&&◌, eqb, leb, List, [], ◌∷◌, ◌++◌, length, Some, None, Option, sym, refl, ap, ◌∙◌, subst, arith, length-append}
 use Rattle.std.proofs.lemmas.Bool.Decides.{nat_tests}
 use Rattle.sources.specs.Lists.{count, has}
 use Rattle.sources.specs.Stock.{Stock, Lawful, is_foreign}
-use Rattle.stores.specs.Pairs.{turned}
-use Rattle.stores.specs.Texts.{same_key}
 use Rattle.stores.specs.declared.text.Element.{Element}
-use Rattle.machine.specs.Machine.{Machine, Outcome, with_lists, with_held, with_queue, with_texts, holds, places, added, without, outside, numbers, by, later_than, in_order, waiting, key, text_under, queued_in, ticked_to, bound_in, hold_checks, release_checks, queue_checks, tick_checks, bind_checks, text_checks, front, back, mint_from, step}
+use Rattle.machine.specs.Machine.{Machine, Outcome, with_lists, with_held, holds, places, added, without, outside, numbers, by, in_order, waiting, text_under, queued_in, ticked_to, bound_in, hold_checks, release_checks, queue_checks, tick_checks, bind_checks, text_checks, front, back, mint_from, step}
 use Rattle.machine.specs.Runs.{Sound, all_after}
 use Rattle.machine.specs.Calls.{Asked, Mint, Hold, Release, Queue, Tick, Bind, Purge}
-use Rattle.machine.specs.declared.call.Due.{Due}
-use Rattle.machine.proofs.Checks.{Passed, tried_so, on_name_so, on_element_so}
+use Rattle.machine.proofs.Checks.{tried_so, on_name_so, on_element_so}
 use Rattle.machine.proofs.Counts.{has_tells, count_append, count_added, count_without, count_front, all_front, back_first, later_after, after_append, length_in_order, length_numbers, length_by, length_front}
 use Rattle.machine.proofs.Draws.{front_back, minted_stock, minted_lawful, minted_ahead, minted_foreign}
-use Rattle.machine.proofs.Effects.{total, waits_tells, queue_total, queue_waits, tick_total, tick_waits, Gone, mint_waits, bound_under, none_bound}
+use Rattle.machine.proofs.Effects.{waits_tells, queue_total, queue_waits, tick_total, tick_waits, Gone, mint_waits, bound_under, none_bound}
 use Rattle.machine.proofs.Places.{has_append, outside_added, outside_without, outside_less, passed_fit, front_passes}
 
 module _ (m : Machine) (i : Sound m) where

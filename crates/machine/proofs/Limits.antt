@@ -1,9 +1,9 @@
 -- How many numbers of a list stand outside another, and that a number which a mint passes does not stand aside already.
-use Rattle.std.proofs.Common.{◌≡◌, ℕ, suc, ◌+◌, ◌≤◌, Bool, true, false, cond, ◌||◌, eqb, List, [], ◌∷◌, length, refl, arith}
+use Rattle.std.proofs.Common.{◌≡◌, ℕ, ◌+◌, ◌≤◌, cond, List, [], ◌∷◌, length, refl, arith}
 use Rattle.std.proofs.lemmas.Bool.Decides.{nat_tests}
 use Rattle.sources.specs.Lists.{count, has}
-use Rattle.machine.specs.Machine.{Machine, outside}
-use Rattle.machine.specs.Runs.{Sound, PassedOnce}
+use Rattle.machine.specs.Machine.{outside}
+use Rattle.machine.specs.Runs.{PassedOnce}
 use Rattle.machine.proofs.Counts.{has_tells}
 
 pub outside_none : (ys : List ℕ) → outside [] ys ≡ length ys

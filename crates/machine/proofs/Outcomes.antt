@@ -2,7 +2,6 @@
 use Rattle.std.proofs.Common.{◌≡◌, refl}
 use Rattle.machine.specs.Calls.{Asked, Mint, Hold, Release, Queue, Tick, Bind, Purge}
 use Rattle.machine.specs.Machine.{Machine, outcome, answer, said, step}
-use Rattle.machine.specs.declared.call.Answer.{Answer}
 
 pub stepped : (m : Machine) (c : Asked) → (step m c).0 ≡ (outcome m c).0
 stepped m Mint = refl

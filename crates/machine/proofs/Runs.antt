@@ -1,24 +1,23 @@
 -- The law of every run: from any sound machine, and of a new register.
-use Rattle.std.proofs.Common.{◌≡◌, ℕ, ◌+◌, ◌≤◌, Bool, true, false, not, ◌&&◌, ◌||◌, ltb, List, [], ◌∷◌, Ok, Err, Result, sym, refl, ap, ◌∙◌, subst, subst₂, arith}
+use Rattle.std.proofs.Common.{◌≡◌, ℕ, Bool, true, false, not, ◌&&◌, ◌||◌, ltb, List, [], ◌∷◌, Ok, Err, Result, refl, ◌∙◌, subst, subst₂, arith}
 use Rattle.std.proofs.lemmas.Bool.Decides.{nat_tests}
 use Rattle.names.specs.declared.fault.NameFault.{NameFault}
-use Rattle.sources.specs.Lists.{count, has}
+use Rattle.sources.specs.Lists.{has}
 use Rattle.sources.specs.Stock.{Stock, Lawful, is_ahead, is_foreign, is_given}
 use Rattle.sources.specs.declared.source.Stand.{Stand}
 use Rattle.sources.specs.declared.source.Stand.TheVariants.{Ahead, Given, Foreign}
 use Rattle.machine.specs.Names.{Name, read_as}
 use Rattle.machine.specs.Machine.{Machine, fresh, step, final, answers, waiting, holds, numbers, text_under}
-use Rattle.machine.specs.History.{Event, History, Start, event, told_after, after}
-use Rattle.machine.specs.Law.{Law, new, FirstTurns, one_if}
+use Rattle.machine.specs.History.{History, Start, event, told_after, after}
+use Rattle.machine.specs.Law.{new, FirstTurns, one_if}
 use Rattle.machine.specs.Runs.{Sound, Matches, of_name, second_of, past, FromAnyStart, FromNew, StaysSound, StaysMatched, SameNaming}
-use Rattle.machine.specs.declared.call.Answer.{Answer}
 use Rattle.machine.specs.Calls.{Asked}
 use Rattle.machine.proofs.Counts.{second_none, second_after}
 use Rattle.machine.proofs.Draws.{ahead_not_foreign}
 use Rattle.machine.proofs.Keeps.{step_sound}
 use Rattle.machine.proofs.Readings.{read_ok}
 use Rattle.machine.proofs.Right.{Right, AllRight, law_so}
-use Rattle.machine.proofs.Steps.{Goes, step_goes}
+use Rattle.machine.proofs.Steps.{step_goes}
 
 -- a run that has the history g so far, over the naming that it began with
 pub record Goes_on (s : Stock) (o : Start) (m : Machine) (g : History) : Type 0 where

@@ -1,23 +1,21 @@
 -- Each call of a sound machine is right, and the history with its event still says what the machine has.
-use Rattle.std.proofs.Common.{◌≡◌, ℕ, suc, ◌+◌, ◌<◌, ◌≤◌, Bool, true, false, cond, not, ◌&&◌, ◌||◌, eqb, ltb, leb, List, [], ◌∷◌, ◌++◌, Some, None, Ok, Err, Option, Result, sym, refl, ap, ◌∙◌, subst, arith}
+use Rattle.std.proofs.Common.{◌≡◌, ℕ, ◌≤◌, Bool, true, false, not, ◌&&◌, ◌||◌, leb, List, [], ◌∷◌, Some, None, Ok, Err, Result, sym, refl, ap, ◌∙◌, arith}
 use Rattle.std.proofs.lemmas.Bool.Decides.{nat_tests}
 use Rattle.names.specs.declared.fault.NameFault.{NameFault}
-use Rattle.sources.specs.Lists.{count, has}
-use Rattle.sources.specs.Stock.{Stock, Lawful, is_foreign}
-use Rattle.stores.specs.declared.text.Element.{Element}
+use Rattle.sources.specs.Lists.{has}
+use Rattle.sources.specs.Stock.{Stock, is_foreign}
 use Rattle.machine.specs.Names.{Name, bare, read_as}
-use Rattle.machine.specs.Machine.{Machine, Outcome, with_lists, holds, numbers, waiting, text_under, front, back, mint_from, said, step, hold_checks, release_checks, queue_checks, tick_checks, bind_checks, text_checks}
-use Rattle.machine.specs.History.{Event, History, Start, minted, mint_refused, refused, waits, on_hold, has_text, not_yet_due, event, mint_event, after}
+use Rattle.machine.specs.Machine.{Machine, Outcome, with_lists, holds, numbers, waiting, text_under, back, mint_from, said, step, hold_checks, release_checks, queue_checks, tick_checks, bind_checks, text_checks}
+use Rattle.machine.specs.History.{Event, History, Start, minted, refused, waits, on_hold, not_yet_due, event, mint_event, after}
 use Rattle.machine.specs.Law.{Stopped}
-use Rattle.machine.specs.Runs.{Sound, Matches, of_name}
+use Rattle.machine.specs.Runs.{Sound, Matches}
 use Rattle.machine.specs.declared.call.Answer.{Answer}
-use Rattle.machine.specs.declared.call.Answer.TheVariants.{Minted, Held, Released, Queued, Ticked, Bound, Purged, Refused}
+use Rattle.machine.specs.declared.call.Answer.TheVariants.{Minted, Held, Released, Queued, Ticked, Bound, Purged}
 use Rattle.machine.specs.Calls.{Asked, Mint, Hold, Release, Queue, Tick, Bind, Purge}
-use Rattle.machine.specs.declared.fault.RegisterFault.{RegisterFault}
-use Rattle.machine.proofs.Checks.{Passed, tried_so, on_name_so, on_element_so}
+use Rattle.machine.proofs.Checks.{tried_so, on_name_so}
 use Rattle.machine.proofs.Counts.{has_tells, all_front, back_first}
 use Rattle.machine.proofs.Draws.{minted_stock, minted_foreign, minted_reads, minted_named}
-use Rattle.machine.proofs.Effects.{total, waits_tells, Gone}
+use Rattle.machine.proofs.Effects.{waits_tells, Gone}
 use Rattle.machine.proofs.Keeps.{gone_aside, gone_returned, gone_ahead}
 use Rattle.machine.proofs.Readings.{read_ok}
 use Rattle.machine.proofs.Right.{Right, RightMint}

@@ -1,19 +1,18 @@
 -- After each call the history says of every name what the machine has of its number; and the law stands at the call.
-use Rattle.std.proofs.Common.{◌≡◌, ℕ, suc, ◌+◌, ◌<◌, ◌≤◌, Bool, true, false, cond, not, ◌&&◌, ◌||◌, eqb, ltb, leb, List, [], ◌∷◌, ◌++◌, Some, None, Ok, Err, Option, Result, sym, refl, ap, ◌∙◌, subst, ap₂, arith}
+use Rattle.std.proofs.Common.{◌≡◌, ℕ, ◌+◌, ◌≤◌, Bool, true, false, cond, not, ◌&&◌, eqb, ltb, List, ◌∷◌, Some, None, Ok, Err, Result, sym, refl, ap, ◌∙◌, arith}
 use Rattle.std.proofs.lemmas.Bool.Decides.{nat_tests}
 use Rattle.std.specs.Str.{bytes_eq}
 use Rattle.names.specs.declared.fault.NameFault.{NameFault}
 use Rattle.sources.specs.Lists.{count, has}
-use Rattle.sources.specs.Stock.{Stock, Lawful, is_foreign}
+use Rattle.sources.specs.Stock.{Stock, is_foreign}
 use Rattle.stores.specs.Texts.{same_element}
 use Rattle.stores.specs.declared.text.Element.{Element}
-use Rattle.machine.specs.Names.{Name, bare, read_as}
-use Rattle.machine.specs.Machine.{Machine, Outcome, with_lists, with_held, holds, added, without, numbers, later_than, waiting, text_under, queued_in, ticked_to, bound_in}
-use Rattle.machine.specs.History.{Event, History, Start, minted, mint_refused, held, released, queued, ticked, bound, purged, refused, waits, on_hold, has_text, due, clock_after, not_yet_due, after}
-use Rattle.machine.specs.Law.{Stopped}
+use Rattle.machine.specs.Names.{Name, read_as}
+use Rattle.machine.specs.Machine.{Machine, with_lists, with_held, holds, added, without, numbers, later_than, waiting, text_under, queued_in, ticked_to, bound_in}
+use Rattle.machine.specs.History.{History, Start, minted, mint_refused, held, released, queued, ticked, bound, purged, refused, waits, due, clock_after, not_yet_due, after}
 use Rattle.machine.specs.Runs.{Sound, Matches, of_name, second_of}
-use Rattle.machine.proofs.Counts.{has_tells, count_numbers_append, all_front, has_later, second_later}
-use Rattle.machine.proofs.Effects.{total, waits_tells, hold_holds, release_holds, queue_waits, queue_delayed, queue_second, tick_waits, Gone, mint_waits, bound_under}
+use Rattle.machine.proofs.Counts.{has_tells, has_later, second_later}
+use Rattle.machine.proofs.Effects.{waits_tells, hold_holds, release_holds, queue_waits, queue_delayed, queue_second, tick_waits, Gone, mint_waits, bound_under}
 use Rattle.machine.proofs.Readings.{read_ok, alike, turned_at, turned_if}
 
 module _ (o : Start) (h : History) (m : Machine) (i : Sound m) (k : Matches (after o h) m) where

@@ -1,14 +1,14 @@
 -- The law is met by a real source, and refuses the histories of wrong registers, each by a short one (latest event first).
-use Rattle.std.proofs.Common.{◌≡◌, ℕ, zero, suc, ◌+◌, ◌-◌, ◌<◌, ◌≤◌, Bool, true, false, cond, not, ◌&&◌, ◌||◌, eqb, ltb, leb, List, [], ◌∷◌, length, get_or, set, is_ok, Ok, sym, refl, ap, ◌∙◌, subst, arith, lit≤}
+use Rattle.std.proofs.Common.{◌≡◌, ℕ, zero, suc, ◌+◌, ◌-◌, ◌<◌, ◌≤◌, Bool, true, false, cond, ◌&&◌, eqb, ltb, leb, List, [], ◌∷◌, length, get_or, set, is_ok, Ok, sym, refl, ap, ◌∙◌, subst, arith, lit≤}
 use Rattle.std.proofs.lemmas.Bool.{true≢false, cond-true, cond-false, lt-ltb, le-ltb}
 use Rattle.std.proofs.lemmas.Bool.Decides.{nat_tests}
 use Rattle.names.specs.Texts.{swapped}
-use Rattle.sources.specs.Lists.{count, has}
+use Rattle.sources.specs.Lists.{has}
 use Rattle.sources.specs.Stock.{Stock, Lawful, is_ahead, is_foreign}
 use Rattle.sources.specs.declared.source.Stand.TheVariants.{Ahead, Foreign}
 use Rattle.stores.specs.declared.text.Element.TheVariants.{Who}
 use Rattle.machine.specs.Machine.{fresh}
-use Rattle.machine.specs.History.{History, Event, minted, mint_refused, held, queued, bound}
+use Rattle.machine.specs.History.{minted, mint_refused, held, queued, bound}
 use Rattle.machine.specs.Law.{Law, new}
 use Rattle.machine.specs.Runs.{past}
 use Rattle.machine.specs.Calls.{Asked}

@@ -1,5 +1,5 @@
 -- The law over whole runs: new, the start of a new register; Stopped, when a mint is refused; Law, one field for each sentence of it.
-use Rattle.std.specs.Prelude.{◌≡◌, ℕ, ◌+◌, ◌<◌, Bool, true, false, cond, not, ◌||◌, List, [], ◌∷◌, ◌++◌, length, is_ok, Ok, ◌≢◌, slice_index, slice_set}
+use Rattle.std.specs.Prelude.{◌≡◌, ℕ, ◌+◌, ◌<◌, Bool, true, false, cond, not, ◌||◌, ◌∷◌, ◌++◌, length, is_ok, Ok, ◌≢◌, slice_index, slice_set}
 use Rattle.names.specs.Texts.{swapped}
 use Rattle.sources.specs.Stock.{Stock, is_ahead, is_foreign, is_given}
 use Rattle.stores.specs.declared.text.Element.{Element}

@@ -1,7 +1,6 @@
 -- The register's machine over what its source and its store mean: Machine, its state; the checks of each call in their order;
 -- outcome and step, one call; answers and final, a list of calls.
-use Rattle.std.specs.Prelude.{ℕ, suc, pred, ◌+◌, Bool, true, false, cond, not, ◌&&◌, ◌||◌, ltb, leb, List, [], ◌∷◌, ◌++◌, length, is_some, Some, None, Ok, Err, Option, Result, ◌==◌, nat_le, nat_lt}
-use Rattle.names.specs.declared.fault.NameFault.{NameFault}
+use Rattle.std.specs.Prelude.{ℕ, suc, pred, ◌+◌, Bool, cond, not, ◌&&◌, ◌||◌, ltb, leb, List, [], ◌∷◌, ◌++◌, length, is_some, Some, None, Ok, Err, Option, Result, ◌==◌, nat_le, nat_lt}
 use Rattle.sources.specs.Lists.{has}
 use Rattle.sources.specs.Stock.{Stock, is_foreign, drawn}
 use Rattle.sources.specs.declared.fault.SourceFault.TheVariants.{Foreign}

@@ -1,5 +1,5 @@
 -- What a source means, and what its meaning obeys.
-use Rattle.std.specs.Prelude.{◌≡◌, ℕ, ◌^◌, ◌<◌, ◌≤◌, Bool, true, false, cond, List, [], ◌∷◌, length, is_ok, Some, None, Ok, Err, Option, Result, ◌==◌, ◌≢◌, slice_index, slice_set}
+use Rattle.std.specs.Prelude.{◌≡◌, ℕ, ◌^◌, ◌<◌, ◌≤◌, Bool, true, false, cond, List, [], length, is_ok, Some, None, Ok, Option, Result, ◌==◌, ◌≢◌, slice_index, slice_set}
 use Rattle.sources.specs.Lists.{count, has, first, rest}
 use Rattle.names.specs.Texts.{swapped}
 use Rattle.names.specs.declared.fault.NameFault.{NameFault}

@@ -1,6 +1,6 @@
 -- The worked examples of the rules, as one table over the definitions that the contracts cite.
 -- Row: what the definitions compute, and what it is; table: the examples; Holds: each row computes what it says.
-use Rattle.std.specs.Prelude.{◌≡◌, ℕ, List, [], ◌∷◌, Ok, Err, codes, Result}
+use Rattle.std.specs.Prelude.{◌≡◌, ℕ, List, [], ◌∷◌, Ok, Err, codes}
 use Rattle.names.specs.Check.{weighted, check_char}
 use Rattle.names.specs.Faults.{template_refusal, name_refusal}
 use Rattle.names.specs.Forms.{Form}

@@ -1,5 +1,5 @@
 -- Bytes that fit are the text that is made of them.
-use Rattle.std.proofs.Common.{◌≡◌, ℕ, ◌≤◌, List, ◌++◌, length, take, Some, None, Option, sym, ap, ◌∙◌}
+use Rattle.std.proofs.Common.{◌≡◌, ℕ, ◌≤◌, List, ◌++◌, length, take, Some, None, sym, ap, ◌∙◌}
 use lib.Seq.{take-append_seam}
 use Rattle.std.proofs.lemmas.Bool.{le-ltb, cond-false}
 use Rattle.machine.specs.Texts.{fitting}

@@ -24,8 +24,7 @@ give-requires g c =
     let few = few_live u.total u.share 0 u.counts in
     let long = u.long in
     let live = c.live-live.ensures in
-    let below = g.C.Chooser.under s.chooser c.draws-draws.result c.live-live.result (omega arith) (omega arith) in
-    let picked = c.choose-index.ensures in
+    let below : c.choose-index.result < c.live-live.result = subst (λ (i : ℕ). i < c.live-live.result) (sym c.choose-index.ensures) (g.C.Chooser.under s.chooser _ c.live-live.result (omega arith) (omega arith)) in
     omega arith
 
 pub returns : goal.returns
