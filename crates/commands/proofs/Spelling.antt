@@ -1,6 +1,6 @@
 -- A line that is read is the command typed out. Assumes nothing.
 use Rattle.std.proofs.Common.{◌≡◌, ℕ, suc, ◌+◌, ◌-◌, ◌*◌, ◌^◌, ◌<◌, ◌≤◌, Bool, true, false, cond, ◌&&◌, ◌||◌, eqb, ltb, leb, ◌⊎◌, List, [], ◌∷◌, ◌++◌, length, get_or, drop, Some, None, Ok, Err, codes, decimal, Option, Result, sym, refl, ap, ◌∙◌, subst, inl, inr, append-nil, arith, rules}
-use Rattle.commands.specs.Forms.{Said, mint, queue, tick, bind_set, bind_purge, fetch, validate, then, next, last, rest, known, then_word, then_known, done, held_by, bound_by, form, spoken, opening}
+use Rattle.commands.specs.Forms.{Said, mint, queue, tick, bind_set, bind_purge, fetch, validate, then, next, rest, known, then_word, then_known, done, held_by, bound_by, form, spoken, opening}
 use Rattle.commands.specs.Numbers.{is_digit, digits_on, misshapen, number, count, from_1_to_100, delay, or_else}
 use Rattle.commands.specs.Spelling.{spaces_before, with_spaces, Spelt}
 use Rattle.commands.specs.Words.{Word, words, texts, onto, pick, heads, openings, turns, edits, elements}

@@ -1,11 +1,11 @@
 -- What stands at the places that the lists' functions find. Assumes nothing.
-use Rattle.std.proofs.Common.{◌≡◌, ℕ, suc, ◌+◌, ◌<◌, ◌≤◌, Bool, true, false, cond, not, eqb, ltb, leb, ◌⊎◌, List, [], ◌∷◌, ◌++◌, length, get_or, take, drop, Some, None, Option, sym, refl, ap, ◌∙◌, inl, inr, ⊎_elim, arith}
+use Rattle.std.proofs.Common.{◌≡◌, ℕ, suc, ◌+◌, ◌<◌, ◌≤◌, Bool, true, false, cond, not, eqb, ltb, leb, ◌⊎◌, List, [], ◌∷◌, length, get_or, take, drop, sym, refl, ap, ◌∙◌, inl, inr, ⊎_elim, arith}
 use Rattle.std.specs.List.{insert, remove}
-use Rattle.std.proofs.lemmas.List.{drop_more, drop_all, append-nil, take_all}
+use Rattle.std.proofs.lemmas.List.{drop_more, drop_all, take_all}
 use Rattle.std.proofs.lemmas.Bool.{cases_Bool, cases_lt, cond-true, cond-false, le-leb, leb-true, leb-false, lt-leb}
 use Rattle.std.proofs.lemmas.Bool.Decides.{nat_tests}
-use Rattle.sources.specs.Lists.{count, has, first, rest}
-use Rattle.machine.specs.Machine.{front, back, added, without, numbers, by, later_than, placed, in_order}
+use Rattle.sources.specs.Lists.{has}
+use Rattle.machine.specs.Machine.{front, back, added, without, by, later_than, placed, in_order}
 use Rattle.minter.specs.Finds.{soonest}
 use Rattle.machine.specs.declared.call.Due.{Due}
 

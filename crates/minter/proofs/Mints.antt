@@ -1,5 +1,5 @@
 -- What the steps of a mint come to. Assumes nothing.
-use Rattle.std.proofs.Common.{◌≡◌, ℕ, suc, ◌+◌, ◌-◌, ◌<◌, ◌≤◌, Bool, true, false, cond, not, ◌&&◌, eqb, List, [], ◌∷◌, ◌++◌, length, get_or, take, drop, is_some, Some, None, Ok, Option, sym, refl, ap, ◌∙◌, ap₂, ⊎_elim, append_assoc, arith}
+use Rattle.std.proofs.Common.{◌≡◌, ℕ, suc, ◌+◌, ◌-◌, ◌<◌, ◌≤◌, true, false, not, List, [], ◌∷◌, ◌++◌, length, get_or, take, drop, is_some, Some, Ok, Option, sym, refl, ap, ◌∙◌, ap₂, ⊎_elim, append_assoc, arith}
 use Rattle.std.specs.List.{remove}
 use Rattle.std.proofs.lemmas.List.{append-nil, take_all, drop_all}
 use Rattle.std.proofs.lemmas.Bool.{cases_Bool, cond-true, cond-false, and_from, not_from_false, false≢true}
@@ -7,10 +7,10 @@ use Rattle.std.proofs.lemmas.Bool.Decides.{nat_tests}
 use Rattle.sources.specs.Lists.{count, has, first, rest}
 use Rattle.sources.specs.Stock.{drawn}
 use Rattle.machine.specs.Machine.{Machine, Outcome, with_lists, holds, front, back, drawn_over, mint, mint_from}
-use Rattle.minter.specs.Passes.{put_last, set_aside, aside_put, passed, drawn_once, drawn_free, returned_taken}
+use Rattle.minter.specs.Passes.{put_last, set_aside, aside_put, passed, drawn_free, returned_taken}
 use Rattle.machine.specs.Runs.{Sound}
 use Rattle.machine.proofs.Counts.{has_tells, count_append, count_front, all_front}
-use Rattle.minter.proofs.Dues.{first_some, first_none}
+use Rattle.minter.proofs.Dues.{first_some}
 use Rattle.machine.proofs.Places.{front_passes}
 
 -- the first number of a list, and what is left

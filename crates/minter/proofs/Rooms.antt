@@ -1,8 +1,8 @@
 -- What the register's lists keep when a number is held, released, set aside or minted. Assumes nothing.
-use Rattle.std.proofs.Common.{◌≡◌, ℕ, suc, ◌+◌, ◌<◌, ◌≤◌, Bool, true, false, cond, not, ◌&&◌, eqb, leb, List, [], ◌∷◌, ◌++◌, length, sym, refl, ap, ◌∙◌, subst, arith, length-append}
+use Rattle.std.proofs.Common.{◌≡◌, ℕ, ◌+◌, ◌<◌, ◌≤◌, true, false, not, ◌&&◌, leb, List, [], ◌∷◌, ◌++◌, length, refl, ap, ◌∙◌, subst, arith, length-append}
 use Rattle.std.proofs.lemmas.List.{length_push}
 use Rattle.std.proofs.lemmas.Bool.Decides.{nat_tests}
-use Rattle.sources.specs.Lists.{count, has, rest}
+use Rattle.sources.specs.Lists.{has, rest}
 use Rattle.minter.specs.Finds.{Once}
 use Rattle.machine.specs.Machine.{added, without, outside, front, back}
 use Rattle.machine.proofs.Counts.{has_tells, count_added, count_without, length_added, back_first}

@@ -1,5 +1,5 @@
 -- A register whose store is as it was is the same register, since its ghost fields have one proof at most. Assumes nothing.
-use Rattle.std.proofs.Common.{◌≡◌, ℕ, ◌+◌, ◌≤◌, length, vec_items, vec_len, vec_capacity, ap, ◌∙◌}
+use Rattle.std.proofs.Common.{◌≡◌, ◌+◌, ◌≤◌, length, vec_items, vec_len, vec_capacity, ap, ◌∙◌}
 use mathlib.Core.Path.{fun_ext}
 use native.Mathlib.Bridge.{le_prop}
 use Rattle.minter.specs.Finds.{Once}

@@ -1,7 +1,7 @@
 -- As many held numbers are ahead as are left exactly where all that is ahead is held. Assumes nothing.
-use Rattle.std.proofs.Common.{◌≡◌, ℕ, suc, ◌+◌, ◌<◌, ◌≤◌, Bool, true, false, cond, not, eqb, List, [], ◌∷◌, length, is_some, sym, refl, ap, ◌∙◌, arith}
+use Rattle.std.proofs.Common.{◌≡◌, ℕ, ◌+◌, Bool, false, not, eqb, List, [], ◌∷◌, length, is_some, refl, ◌∙◌, arith}
 use Rattle.std.proofs.lemmas.Bool.Decides.{nat_tests}
-use Rattle.sources.specs.Lists.{count, has, first}
+use Rattle.sources.specs.Lists.{has, first}
 use Rattle.minter.specs.Finds.{Once, passing}
 use Rattle.machine.specs.Machine.{outside, back}
 use Rattle.machine.proofs.Counts.{has_tells}

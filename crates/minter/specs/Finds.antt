@@ -1,6 +1,6 @@
 -- Places in the register's lists: passing, how many of a list pass a test; soonest, where the first of those that are
 -- due soonest by a second stands, or the length, and its second.
-use Rattle.std.specs.Prelude.{◌≡◌, ℕ, suc, ◌≤◌, Bool, cond, List, [], ◌∷◌, nat_le}
+use Rattle.std.specs.Prelude.{ℕ, suc, ◌≤◌, Bool, cond, List, [], ◌∷◌, nat_le}
 use Rattle.sources.specs.Lists.{count}
 use Rattle.machine.specs.declared.call.Due.{Due}
 

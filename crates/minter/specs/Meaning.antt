@@ -1,17 +1,13 @@
 -- What a register means: texts_in, the texts of a store's pairs; opened, the machine over a source and a store before the
 -- first call; meaning, the machine that a register stands for; due_by, lacks_room, text_put and text_dropped, of parts of its calls.
-use Rattle.std.specs.Prelude.{ℕ, pred, Bool, cond, not, ◌&&◌, List, [], ◌++◌, length, Some, None, Ok, Err, vec_items, Option, Result, nat_le}
-use Rattle.sources.specs.Stock.{Stock, is_foreign}
-use Rattle.sources.specs.declared.fault.SourceFault.TheVariants.{Foreign}
+use Rattle.std.specs.Prelude.{ℕ, pred, Bool, cond, not, ◌&&◌, List, [], ◌++◌, length, Some, None, vec_items, Option, nat_le}
+use Rattle.sources.specs.Stock.{Stock}
 use Rattle.stores.specs.Pairs.{look, more}
 use Rattle.stores.specs.Texts.{same_key}
 use Rattle.stores.specs.declared.text.Element.{Element}
 use Rattle.stores.specs.declared.text.TextKey.{TextKey}
 use Rattle.machine.specs.Machine.{Machine, text_under, bound_in, with_queue, numbers, by, later_than, in_order}
-use Rattle.machine.specs.Names.{bare}
 use Rattle.machine.specs.Texts.{bytes_of}
-use Rattle.machine.specs.declared.fault.RegisterFault.{RegisterFault}
-use Rattle.machine.specs.declared.fault.RegisterFault.TheVariants.{Name, Source}
 use Rattle.minter.specs.declared.register.Register.{Register}
 use Rattle.machine.specs.declared.text.Text.{Text}
 use Rattle.std.specs.Option.{option_map}

@@ -1,4 +1,4 @@
-use Rattle.std.proofs.Common.{◌≡◌, ℕ, ◌≤◌, length, drop, sym, ap, ◌∙◌, arith}
+use Rattle.std.proofs.Common.{◌≡◌, ℕ, length, drop, sym, ap, arith}
 use Rattle.std.proofs.lemmas.List.{at_drop_all}
 use Rattle.minter.specs.Finds.{soonest}
 use Rattle.minter.proofs.Walk.{soonest_here, soonest_step}

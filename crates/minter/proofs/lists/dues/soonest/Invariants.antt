@@ -1,4 +1,4 @@
-use Rattle.std.proofs.Common.{◌≡◌, ◌+◌, length, drop}
+use Rattle.std.proofs.Common.{◌≡◌, ◌+◌, drop}
 use Rattle.minter.specs.Finds.{soonest}
 use Rattle.minter.proofs.lists.dues.soonest.Given as goal
 

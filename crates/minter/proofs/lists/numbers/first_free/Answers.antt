@@ -1,5 +1,4 @@
-use Rattle.std.proofs.Common.{◌≡◌, true, false, not, eqb, leb, get_or, sym, ap, ◌∙◌, arith}
-use Rattle.std.proofs.lemmas.Bool.Decides.{nat_tests}
+use Rattle.std.proofs.Common.{sym, ◌∙◌, arith}
 use Rattle.sources.specs.Lists.{has}
 use Rattle.minter.proofs.Walk.{front_step, front_here, front_end}
 use Rattle.minter.proofs.lists.numbers.first_free.Goals as goal

@@ -1,4 +1,4 @@
-use Rattle.std.proofs.Common.{◌≡◌, ◌+◌, not, eqb, leb, length, drop}
+use Rattle.std.proofs.Common.{◌≡◌, ◌+◌, length, drop}
 use Rattle.sources.specs.Lists.{has}
 use Rattle.machine.specs.Machine.{front}
 use Rattle.minter.proofs.lists.numbers.first_free.Given as goal

@@ -1,5 +1,4 @@
-use Rattle.std.proofs.Common.{◌≡◌, ◌+◌, not, eqb, leb, length, drop}
-use Rattle.sources.specs.Lists.{has}
+use Rattle.std.proofs.Common.{◌≡◌, ◌+◌, leb, length, drop}
 use Rattle.machine.specs.Machine.{front}
 use Rattle.minter.proofs.lists.numbers.place_above.Given as goal
 

@@ -1,5 +1,4 @@
-use Rattle.std.proofs.Common.{◌≡◌, ◌+◌, not, eqb, leb, length, drop}
-use Rattle.sources.specs.Lists.{has}
+use Rattle.std.proofs.Common.{◌≡◌, ◌+◌, not, eqb, length, drop}
 use Rattle.machine.specs.Machine.{front}
 use Rattle.minter.proofs.lists.numbers.place_of.Given as goal
 

@@ -1,4 +1,4 @@
-use Rattle.std.proofs.Common.{◌≡◌, ℕ, eqb, vec_items, sym, ◌∙◌, ap₂}
+use Rattle.std.proofs.Common.{ℕ, eqb, vec_items, ◌∙◌, ap₂}
 use Rattle.sources.specs.Stock.{is_ahead}
 use Rattle.minter.proofs.Stops.{all_stopped}
 use Rattle.minter.proofs.register.Register.all_ahead_held.Goals as goal

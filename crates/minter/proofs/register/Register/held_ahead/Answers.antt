@@ -1,4 +1,4 @@
-use Rattle.std.proofs.Common.{◌≡◌, ℕ, Bool, List, sym, ap, ◌∙◌, arith}
+use Rattle.std.proofs.Common.{ℕ, Bool, sym, ap, ◌∙◌, arith}
 use Rattle.sources.specs.Stock.{is_ahead}
 use Rattle.minter.specs.Finds.{passing}
 use Rattle.minter.proofs.Walk.{passing_step, passing_here, passing_end}

@@ -1,5 +1,4 @@
-use Rattle.std.proofs.Common.{◌≡◌, [], sym, subst, rules}
-use Rattle.machine.specs.Machine.{fresh}
+use Rattle.std.proofs.Common.{sym, subst, rules}
 use Rattle.machine.specs.Runs.{Sound}
 use Rattle.machine.proofs.Runs.{fresh_sound}
 use Rattle.minter.proofs.register.Register.open.Goals as goal

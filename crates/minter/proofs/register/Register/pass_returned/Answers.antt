@@ -1,4 +1,4 @@
-use Rattle.std.proofs.Common.{◌≡◌, ℕ, ◌+◌, ◌-◌, ◌<◌, ◌≤◌, List, ◌∷◌, length, vec_items, sym, refl, ap, ◌∙◌, ap₂, arith}
+use Rattle.std.proofs.Common.{◌≡◌, ℕ, ◌+◌, ◌-◌, ◌<◌, ◌∷◌, length, vec_items, sym, refl, ap, ◌∙◌, ap₂, arith}
 use Rattle.machine.specs.Machine.{Machine}
 use Rattle.minter.specs.Meaning.{meaning}
 use Rattle.minter.specs.Passes.{passed}

@@ -1,8 +1,6 @@
-use Rattle.std.proofs.Common.{◌≡◌, Err, Result, sym, refl, ap, ◌∙◌}
+use Rattle.std.proofs.Common.{Err, Result, sym, ap, ◌∙◌}
 use Rattle.std.proofs.lemmas.Bool.{cond-true, cond-false, true≢false}
-use Rattle.stores.specs.Pairs.{full}
-use Rattle.stores.specs.Texts.{same_key}
-use Rattle.machine.specs.Machine.{Machine, key}
+use Rattle.machine.specs.Machine.{Machine}
 use Rattle.minter.specs.Meaning.{meaning}
 use Rattle.machine.specs.declared.fault.RegisterFault.{RegisterFault}
 use Rattle.machine.specs.declared.fault.RegisterFault.TheVariants.{Store}

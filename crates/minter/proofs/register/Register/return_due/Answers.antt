@@ -1,7 +1,6 @@
-use Rattle.std.proofs.Common.{◌≡◌, ℕ, List, [], ◌∷◌, ◌++◌, vec_items, sym, refl, ap, ◌∙◌, ap₂}
+use Rattle.std.proofs.Common.{◌≡◌, ℕ, List, ◌++◌, vec_items, sym, refl, ap, ◌∙◌, ap₂}
 use Rattle.std.proofs.lemmas.List.{append-nil}
-use Rattle.sources.specs.Lists.{rest}
-use Rattle.machine.specs.Machine.{Machine, with_queue, numbers, by, later_than, in_order}
+use Rattle.machine.specs.Machine.{with_queue, numbers, by, in_order}
 use Rattle.minter.specs.Meaning.{meaning}
 use Rattle.machine.specs.declared.call.Due.{Due}
 use Rattle.minter.proofs.Dues.{first_moved, none_due}

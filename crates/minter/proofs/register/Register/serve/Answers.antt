@@ -1,4 +1,4 @@
-use Rattle.std.proofs.Common.{◌≡◌, ℕ, Bool, true, false, is_ok, Ok, Err, Result, sym, refl, ap, ◌∙◌, rules}
+use Rattle.std.proofs.Common.{◌≡◌, ℕ, is_ok, Ok, Err, Result, sym, refl, ap, ◌∙◌}
 use Rattle.machine.specs.Calls.{Asked, Mint, Hold, Release, Queue, Tick, Bind, Purge, asked}
 use Rattle.machine.specs.History.{accepted}
 use Rattle.machine.specs.Machine.{answer, said}

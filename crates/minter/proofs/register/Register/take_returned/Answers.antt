@@ -1,9 +1,9 @@
-use Rattle.std.proofs.Common.{◌≡◌, ℕ, ◌+◌, ◌-◌, ◌<◌, ◌≤◌, Bool, List, ◌∷◌, ◌++◌, length, take, drop, vec_items, sym, refl, ap, ◌∙◌, subst, ap₂, arith, length-drop}
+use Rattle.std.proofs.Common.{◌≡◌, ℕ, ◌<◌, ◌≤◌, Bool, List, ◌∷◌, length, drop, vec_items, sym, refl, ap, ◌∙◌, ap₂, arith, length-drop}
 use Rattle.std.proofs.lemmas.Bool.{true≢false, false≢true}
 use Rattle.sources.specs.Lists.{has, first, rest}
 use Rattle.machine.specs.Machine.{Machine, with_lists, front, back}
 use Rattle.minter.specs.Meaning.{meaning}
-use Rattle.minter.specs.Passes.{set_aside, passed}
+use Rattle.minter.specs.Passes.{set_aside}
 use Rattle.minter.proofs.Found.{back_is, back_none, front_at}
 use Rattle.minter.proofs.Mints.{head_removed}
 use Rattle.minter.proofs.Same.{same_register}
