@@ -1,6 +1,6 @@
 -- verdict_of: what becomes of one line under a template
 -- counts_of: how many of some lines are good, and how many are refused
-use Rattle.std.specs.Prelude.{ℕ, suc, List, [], ◌∷◌, Ok, Err, Result}
+use Rattle.std.specs.Prelude.{ℕ, suc, List, [], ◌∷◌, Ok, Err}
 use Rattle.names.specs.Faults.{name_refusal}
 use Rattle.names.specs.Forms.{Form}
 use Rattle.names.specs.Validate.{reads}

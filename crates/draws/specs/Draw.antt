@@ -1,6 +1,6 @@
 -- next: what a source draws next, with its name
 -- shown: a drawn number and the bytes of its name
-use Rattle.std.specs.Prelude.{ℕ, List, [], ◌∷◌, Some, None, Option}
+use Rattle.std.specs.Prelude.{ℕ, List, Some, None, Option}
 use Rattle.names.specs.Texts.{text_of}
 use Rattle.names.specs.declared.name.Name.{Name}
 use Rattle.sources.specs.Lists.{first}

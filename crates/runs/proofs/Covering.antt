@@ -1,5 +1,5 @@
 -- Which names a new source has. Assumes nothing.
-use Rattle.std.proofs.Common.{◌≡◌, ℕ, ◌<◌, Bool, true, false, cond, not, ltb, List, is_ok, Ok, Err, Result, sym, refl, ap, ◌∙◌}
+use Rattle.std.proofs.Common.{◌≡◌, ℕ, ◌<◌, Bool, true, false, cond, not, ltb, List, is_ok, Ok, Err, Result, refl, ap, ◌∙◌}
 use Rattle.std.proofs.lemmas.Bool.{lt-ltb}
 use Rattle.names.proofs.Guarded.{undo}
 use Rattle.names.proofs.Templates.{good}
@@ -13,7 +13,6 @@ use Rattle.sources.specs.Lists.{count, has}
 use Rattle.sources.specs.Named.{new_stock, total_of}
 use Rattle.sources.specs.Stock.{is_ahead, is_foreign}
 use Rattle.sources.specs.declared.source.Stand.TheVariants.{Ahead, Foreign}
-use Rattle.machine.specs.Law.{is_name_of}
 use Rattle.machine.specs.Names.{Name, read_as}
 use Rattle.runs.specs.Sources.{Whole, Listed}
 

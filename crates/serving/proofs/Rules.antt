@@ -3,7 +3,7 @@ use Rattle.std.proofs.Common.{◌≡◌, ℕ, Bool, true, false, cond, ltb, leb,
 use Rattle.commands.specs.Forms as forms
 use Rattle.commands.specs.Forms.{Said, mint, hold_set, hold_release, queue, tick, bind_set, bind_purge, fetch, validate}
 use Rattle.commands.specs.declared.fault.CommandFault.{CommandFault}
-use Rattle.commands.specs.declared.fault.CommandFault.TheVariants.{Register, Lines}
+use Rattle.commands.specs.declared.fault.CommandFault.TheVariants.{Lines}
 use Rattle.machine.proofs.Runs.{from_new}
 use Rattle.machine.specs.Calls.{Asked}
 use Rattle.machine.specs.Machine as machine

@@ -2,12 +2,12 @@
 use Rattle.std.proofs.Common.{◌≡◌, ℕ, ◌+◌, ◌≤◌, min, List, length, Some, None, Ok, Option, sym, ap, ◌∙◌, subst, arith, length-append}
 use Rattle.commands.specs.Faults.{command_refusal}
 use Rattle.commands.specs.Forms.{Said}
-use Rattle.commands.specs.declared.fault.CommandFault.TheVariants.{Register, Lines}
+use Rattle.commands.specs.declared.fault.CommandFault.TheVariants.{Register}
 use Rattle.machine.specs.declared.fault.RegisterFault.{RegisterFault}
 use Rattle.reports.specs.Reports.{line, refused}
 use Rattle.texts.proofs.Fill.{join}
 use Rattle.texts.specs.Output.{Wrote}
-use Rattle.sessions.specs.Frames.{Desk, Answered, refusing, with_command, heard, counted, Replied}
+use Rattle.sessions.specs.Frames.{Desk, Answered, refusing, with_command, heard, Replied}
 use Rattle.sessions.specs.Performing.{Performed, performed, Did}
 use Rattle.sessions.specs.Tallies.{tallied}
 use Rattle.sessions.specs.declared.line.Reply.{Reply}

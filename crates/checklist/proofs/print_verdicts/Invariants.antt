@@ -1,4 +1,4 @@
-use Rattle.std.proofs.Common.{◌+◌, ◌-◌, length}
+use Rattle.std.proofs.Common.{◌-◌, length}
 use Rattle.checklist.proofs.print_verdicts.Given as goal
 
 abbrev pub decreases-loop-from : goal.decreases-loop-from

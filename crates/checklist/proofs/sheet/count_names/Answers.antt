@@ -1,4 +1,4 @@
-use Rattle.std.proofs.Common.{◌≡◌, ℕ, drop, ap, arith}
+use Rattle.std.proofs.Common.{◌≡◌, ap, arith}
 use Rattle.std.proofs.lemmas.List.{drop_all}
 use Rattle.checklist.specs.Sheet.{counts_of}
 use Rattle.checklist.specs.declared.sheet.Counts.{Counts}

@@ -1,4 +1,4 @@
-use Rattle.std.proofs.Common.{◌≡◌, ℕ, List, ◌++◌, take, drop, sym, ap, ◌∙◌, subst}
+use Rattle.std.proofs.Common.{◌≡◌, ◌++◌, take, drop, sym, ap, ◌∙◌, subst}
 use Rattle.sources.specs.Generators.{gen_stock}
 use Rattle.sources.specs.Lists.{count}
 use Rattle.sources.specs.Named.{total_of}

@@ -1,13 +1,11 @@
-use Rattle.std.proofs.Common.{◌≡◌, List, sym, ap, ◌∙◌, subst, arith, rules}
-use Rattle.sources.specs.Stock.{Stock}
+use Rattle.std.proofs.Common.{◌≡◌, List, sym, ap, ◌∙◌, subst, rules}
 use Rattle.machine.specs.Calls.{asks}
 use Rattle.machine.specs.History.{told}
 use Rattle.machine.specs.Law.{Law, new}
 use Rattle.machine.specs.Machine.{Machine, final, answers, fresh}
-use Rattle.minter.specs.Meaning.{meaning}
 use Rattle.machine.specs.Runs.{Sound}
 use Rattle.machine.specs.declared.call.Answer.{Answer}
-use Rattle.runs.proofs.Going.{Going, goes_on, all_after, all_answers}
+use Rattle.runs.proofs.Going.{goes_on, all_after, all_answers}
 use Rattle.machine.proofs.Runs.{from_new, fresh_sound, first_turns, same_naming}
 use Rattle.runs.proofs.run.run.Goals as goal
 

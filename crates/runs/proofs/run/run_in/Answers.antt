@@ -1,12 +1,11 @@
-use Rattle.std.proofs.Common.{◌≡◌, ℕ, ◌<◌, ◌≤◌, List, ◌++◌, length, take, drop, sym, ap, ◌∙◌, subst, arith, length-set}
+use Rattle.std.proofs.Common.{◌≡◌, ◌≤◌, ◌++◌, length, take, drop, sym, ap, ◌∙◌, subst, arith, length-set}
 use Rattle.machine.specs.Calls.{asks}
 use Rattle.machine.specs.History.{told}
 use Rattle.machine.specs.Law.{Law, new}
 use Rattle.machine.specs.Machine.{Machine, final, answers, fresh}
 use Rattle.minter.specs.Meaning.{meaning}
 use Rattle.machine.specs.Runs.{Sound}
-use Rattle.machine.specs.declared.call.Answer.{Answer}
-use Rattle.runs.proofs.Going.{Going, writes_on, past_stays, ends_after, ends_written, told_more}
+use Rattle.runs.proofs.Going.{writes_on, past_stays, ends_after, ends_written, told_more}
 use Rattle.machine.proofs.Runs.{from_new, fresh_sound, first_turns, same_naming}
 use Rattle.runs.proofs.run.run_in.Goals as goal
 

@@ -1,4 +1,4 @@
-use Rattle.std.proofs.Common.{◌≡◌, ◌≤◌, length, take, drop}
+use Rattle.std.proofs.Common.{◌≡◌, length, take, drop}
 use Rattle.minter.specs.Meaning.{meaning}
 use Rattle.machine.specs.Runs.{Sound}
 use Rattle.runs.proofs.Going.{Going}
