@@ -48,7 +48,7 @@ pub(crate) fn set_next<K, V>(nodes: &mut [Node<K, V>], at: usize, to: u16)
     }
 }
 
-pub(crate) fn set_key<K: Copy, V>(nodes: &mut [Node<K, V>], at: usize, k: K)
+pub(crate) fn set_key<K: Drop, V>(nodes: &mut [Node<K, V>], at: usize, k: K)
     ensures links { (table nodes.new).links ≡ (table nodes.old).links }
     ensures keys { (table nodes.new).keys ≡ slice_set (table nodes.old).keys at k }
     ensures values { (table nodes.new).values ≡ (table nodes.old).values }
@@ -58,7 +58,7 @@ pub(crate) fn set_key<K: Copy, V>(nodes: &mut [Node<K, V>], at: usize, k: K)
     }
 }
 
-pub(crate) fn set_value<K, V: Copy>(nodes: &mut [Node<K, V>], at: usize, v: V)
+pub(crate) fn set_value<K, V: Drop>(nodes: &mut [Node<K, V>], at: usize, v: V)
     ensures links { (table nodes.new).links ≡ (table nodes.old).links }
     ensures keys { (table nodes.new).keys ≡ (table nodes.old).keys }
     ensures values { (table nodes.new).values ≡ slice_set (table nodes.old).values at v }

@@ -1,8 +1,8 @@
 -- A command that is read is fair, and its line is short. Assumes nothing.
-use Rattle.std.proofs.Common.{◌≡◌, ℕ, ◌+◌, ◌≤◌, Bool, true, false, cond, eqb, ltb, List, [], ◌∷◌, length, Some, Ok, Err, Option, Result, refl, ap, ◌∙◌, subst}
+use Rattle.std.proofs.Common.{◌≡◌, ℕ, ◌+◌, ◌≤◌, Bool, true, false, cond, eqb, ltb, List, [], ◌∷◌, length, codes, Some, Ok, Err, Option, Result, refl, ap, ◌∙◌, subst}
 use Rattle.commands.specs.Forms.{Said, mint, queue, tick, bind_set, bind_purge, fetch, validate, rest, then_word, then_known, done, held_by, bound_by, form, spoken, reads, opening, opens}
 use Rattle.commands.specs.Numbers.{number, count, delay}
-use Rattle.commands.specs.Spelling.{Worded, Fair, Reading, Opened}
+use Rattle.commands.specs.Spelling.{Worded, Fair, Reading, Opened, Spelt, with_spaces}
 use Rattle.commands.specs.Words.{Word, words, onto, pick, heads, openings, turns, edits, elements}
 use Rattle.commands.specs.declared.fault.CommandFault.{CommandFault}
 use Rattle.commands.specs.declared.fault.CommandFault.TheVariants.{Line}
@@ -104,3 +104,10 @@ reading line c e = let s = short_ok line (spoken line) c e in record { spelt = s
 
 pub opened : (line template : List ℕ) → opens line ≡ Ok template → Opened line template
 opened line template e = let s = short_ok line (opening line) template e in record { spelt = opening_spelt line template s.1; fair = opening_fair line template s.1; short = s.0 }
+
+-- what is read is typed out
+pub reads_spelt : (line : List ℕ) (c : Said) → reads line ≡ Ok c → Spelt line c
+reads_spelt line c e = (reading line c e).spelt
+
+pub opens_spelt : (line template : List ℕ) → opens line ≡ Ok template → line ≡ with_spaces (codes "template" ∷ template ∷ [])
+opens_spelt line template e = (opened line template e).spelt

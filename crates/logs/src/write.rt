@@ -25,7 +25,7 @@ pub(crate) fn squeeze<K: Key + Copy, V: Copy>(entries: &mut [Entry<K, V>], used:
 }
 
 // Writes a record at a place, if there is one; answers where the records in use end then.
-pub(crate) fn note<K: Copy, V: Copy>(
+pub(crate) fn note<K: Drop, V: Drop>(
     entries: &mut [Entry<K, V>],
     at: usize,
     e: Entry<K, V>,
