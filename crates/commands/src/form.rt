@@ -6,7 +6,7 @@ ghost use Rattle.commands.specs.Spans.{In, Inside, on, part, cut_read};
 use crate::fault::CommandFault;
 use crate::number::{count_of, delay_of, number_of};
 use crate::span::{Span, next_word, no_word, part_of, remainder};
-use crate::word::{Edit, Head, Turn, edit_of, turn_of};
+use crate::word::{Edit, Head, Turn, word_of};
 
 // A command by the parts of its line.
 #[derive(Clone, Copy)]
@@ -41,7 +41,7 @@ fn read_hold(line: &[u8], from: usize) -> Result<Spans, CommandFault>
     ensures within { IfOk result (λ x. Inside (length line.now) x) }
 {
     let word = next_word(line, from)?;
-    let Some(turn) = turn_of(part_of(line, word)) else {
+    let Some(turn) = word_of(part_of(line, word)) else {
         return Err(CommandFault::Line(word.from));
     };
     let name = next_word(line, word.to + 1)?;
@@ -111,7 +111,7 @@ fn read_bind(line: &[u8], from: usize) -> Result<Spans, CommandFault>
     ensures within { IfOk result (λ x. Inside (length line.now) x) }
 {
     let word = next_word(line, from)?;
-    let Some(edit) = edit_of(part_of(line, word)) else {
+    let Some(edit) = word_of(part_of(line, word)) else {
         return Err(CommandFault::Line(word.from));
     };
     let name = next_word(line, word.to + 1)?;

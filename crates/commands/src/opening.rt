@@ -7,7 +7,7 @@ ghost use Rattle.commands.specs.Spelling.{Opened, Worded, with_spaces};
 
 use crate::fault::CommandFault;
 use crate::span::{LONGEST, Span, next_word, no_word, part_of};
-use crate::word::opening_of;
+use crate::word::{Opening, word_of};
 
 fn read_template(line: &[u8]) -> Result<Span, CommandFault>
     requires { length line.now ≤ 120 }
@@ -15,7 +15,7 @@ fn read_template(line: &[u8]) -> Result<Span, CommandFault>
     ensures within { IfOk result (λ x. In (length line.now) x) }
 {
     let word = next_word(line, 0)?;
-    let Some(_) = opening_of(part_of(line, word)) else {
+    let Some(Opening::Template) = word_of(part_of(line, word)) else {
         return Err(CommandFault::Line(word.from));
     };
     let template = next_word(line, word.to + 1)?;

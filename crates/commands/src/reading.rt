@@ -9,7 +9,7 @@ use crate::command::Command;
 use crate::fault::CommandFault;
 use crate::form::{Spans, read_form};
 use crate::span::{LONGEST, next_word, part_of};
-use crate::word::{element_of, head_of};
+use crate::word::word_of;
 
 fn read_spans(line: &[u8]) -> Result<Spans, CommandFault>
     requires { length line.now ≤ 120 }
@@ -17,7 +17,7 @@ fn read_spans(line: &[u8]) -> Result<Spans, CommandFault>
     ensures within { IfOk result (λ x. Inside (length line.now) x) }
 {
     let word = next_word(line, 0)?;
-    let Some(head) = head_of(part_of(line, word)) else {
+    let Some(head) = word_of(part_of(line, word)) else {
         return Err(CommandFault::Line(word.from));
     };
     read_form(line, word.to + 1, head)
@@ -38,17 +38,17 @@ fn cut_out<'a>(line: &'a [u8], spans: Spans) -> Command<'a>
             Command::BindSet(
                 part_of(line, name),
                 word,
-                element_of(word),
+                word_of(word),
                 part_of(line, text),
             )
         }
         Spans::BindPurge(name, element) => {
             let word = part_of(line, element);
-            Command::BindPurge(part_of(line, name), word, element_of(word))
+            Command::BindPurge(part_of(line, name), word, word_of(word))
         }
         Spans::Fetch(name, element) => {
             let word = part_of(line, element);
-            Command::Fetch(part_of(line, name), word, element_of(word))
+            Command::Fetch(part_of(line, name), word, word_of(word))
         }
         Spans::Validate(name) => Command::Validate(part_of(line, name)),
     }
