@@ -1,7 +1,7 @@
 // The forms of the commands: each reads the words after the first.
 ghost use Rattle.std.specs.Prelude.{◌≡◌};
 ghost use Rattle.commands.specs.Ahead.{ahead};
-ghost use Rattle.commands.specs.Forms.{form, bound_by, said_read};
+ghost use Rattle.commands.specs.Forms.{form, said_read};
 
 use crate::command::Command;
 use crate::fault::CommandFault;
@@ -9,7 +9,7 @@ use crate::number::{count_of, delay_of, number_of};
 use crate::word::{Edit, Head, Turn, word_of};
 use crate::words::Words;
 
-fn read_mint<'a>(mut words: Words<'a>) -> Result<Command<'a>, CommandFault>
+fn read_mint(mut words: Words<'_>) -> Result<Command<'_>, CommandFault>
     ensures { said_read result ≡ form Head.Mint words.entry.line.now (ahead words.entry) }
 {
     let word = words.next_word()?;
@@ -18,7 +18,7 @@ fn read_mint<'a>(mut words: Words<'a>) -> Result<Command<'a>, CommandFault>
     Ok(Command::Mint(count))
 }
 
-fn read_hold<'a>(mut words: Words<'a>) -> Result<Command<'a>, CommandFault>
+fn read_hold(mut words: Words<'_>) -> Result<Command<'_>, CommandFault>
     ensures { said_read result ≡ form Head.Hold words.entry.line.now (ahead words.entry) }
 {
     let word = words.next_word()?;
@@ -31,7 +31,7 @@ fn read_hold<'a>(mut words: Words<'a>) -> Result<Command<'a>, CommandFault>
     }
 }
 
-fn read_queue<'a>(mut words: Words<'a>) -> Result<Command<'a>, CommandFault>
+fn read_queue(mut words: Words<'_>) -> Result<Command<'_>, CommandFault>
     ensures { said_read result ≡ form Head.Queue words.entry.line.now (ahead words.entry) }
 {
     let word = words.next_word()?;
@@ -41,7 +41,7 @@ fn read_queue<'a>(mut words: Words<'a>) -> Result<Command<'a>, CommandFault>
     Ok(Command::Queue(name, seconds))
 }
 
-fn read_tick<'a>(mut words: Words<'a>) -> Result<Command<'a>, CommandFault>
+fn read_tick(mut words: Words<'_>) -> Result<Command<'_>, CommandFault>
     ensures { said_read result ≡ form Head.Tick words.entry.line.now (ahead words.entry) }
 {
     let word = words.next_word()?;
@@ -50,15 +50,13 @@ fn read_tick<'a>(mut words: Words<'a>) -> Result<Command<'a>, CommandFault>
     Ok(Command::Tick(second))
 }
 
-// What `bind` takes after the element.
-fn read_edit<'a>(
-    words: Words<'a>,
-    edit: Edit,
-    name: &'a [u8],
-    element: &'a [u8],
-) -> Result<Command<'a>, CommandFault>
-    ensures { said_read result ≡ bound_by edit words.entry.line.now (ahead words.entry) name.now element.now }
+fn read_bind(mut words: Words<'_>) -> Result<Command<'_>, CommandFault>
+    ensures { said_read result ≡ form Head.Bind words.entry.line.now (ahead words.entry) }
 {
+    let word = words.next_word()?;
+    let edit = word_of(word.text).ok_or(CommandFault::Line(word.at))?;
+    let name = words.next_word()?.text;
+    let element = words.next_word()?.text;
     match edit {
         Edit::Set => {
             let text = words.remainder()?;
@@ -71,17 +69,7 @@ fn read_edit<'a>(
     }
 }
 
-fn read_bind<'a>(mut words: Words<'a>) -> Result<Command<'a>, CommandFault>
-    ensures { said_read result ≡ form Head.Bind words.entry.line.now (ahead words.entry) }
-{
-    let word = words.next_word()?;
-    let edit = word_of(word.text).ok_or(CommandFault::Line(word.at))?;
-    let name = words.next_word()?.text;
-    let element = words.next_word()?.text;
-    read_edit(words, edit, name, element)
-}
-
-fn read_fetch<'a>(mut words: Words<'a>) -> Result<Command<'a>, CommandFault>
+fn read_fetch(mut words: Words<'_>) -> Result<Command<'_>, CommandFault>
     ensures { said_read result ≡ form Head.Fetch words.entry.line.now (ahead words.entry) }
 {
     let name = words.next_word()?.text;
@@ -90,7 +78,7 @@ fn read_fetch<'a>(mut words: Words<'a>) -> Result<Command<'a>, CommandFault>
     Ok(Command::Fetch(name, word, word_of(word)))
 }
 
-fn read_validate<'a>(mut words: Words<'a>) -> Result<Command<'a>, CommandFault>
+fn read_validate(mut words: Words<'_>) -> Result<Command<'_>, CommandFault>
     ensures { said_read result ≡ form Head.Validate words.entry.line.now (ahead words.entry) }
 {
     let name = words.next_word()?.text;
@@ -99,7 +87,7 @@ fn read_validate<'a>(mut words: Words<'a>) -> Result<Command<'a>, CommandFault>
 }
 
 // What a command takes after its first word.
-pub(crate) fn read_form<'a>(words: Words<'a>, head: Head) -> Result<Command<'a>, CommandFault>
+pub(crate) fn read_form(words: Words<'_>, head: Head) -> Result<Command<'_>, CommandFault>
     ensures { said_read result ≡ form head words.entry.line.now (ahead words.entry) }
 {
     match head {

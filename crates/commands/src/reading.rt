@@ -12,7 +12,7 @@ use crate::form::read_form;
 use crate::word::word_of;
 use crate::words::Words;
 
-fn read_words<'a>(mut words: Words<'a>) -> Result<Command<'a>, CommandFault>
+fn read_words(mut words: Words<'_>) -> Result<Command<'_>, CommandFault>
     ensures { said_read result ≡ then_known (pick heads) words.entry.line.now (ahead words.entry) (λ head ws. form head words.entry.line.now ws) }
 {
     let word = words.next_word()?;
