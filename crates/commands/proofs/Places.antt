@@ -1,9 +1,8 @@
 -- The words from a place on: the first, and those after it. Assumes nothing.
-use Rattle.std.proofs.Common.{◌≡◌, ℕ, suc, ◌+◌, ◌-◌, ◌<◌, ◌≤◌, true, false, cond, eqb, ltb, leb, List, [], ◌∷◌, length, take, drop, Some, Ok, sym, refl, ap, ◌∙◌, inl, inr, arith}
-use Rattle.commands.specs.Forms.{next, wrong, then, known, form, spoken}
+use Rattle.std.proofs.Common.{◌≡◌, ℕ, suc, ◌+◌, ◌-◌, ◌<◌, ◌≤◌, true, false, cond, eqb, ltb, leb, List, [], ◌∷◌, length, take, drop, Ok, sym, refl, ap, ◌∙◌, inl, inr, arith}
+use Rattle.commands.specs.Forms.{next, wrong}
 use Rattle.commands.specs.Ahead.{on}
-use Rattle.commands.specs.Words.{Word, words, onto, pick, heads}
-use Rattle.commands.specs.declared.word.Head.{Head}
+use Rattle.commands.specs.Words.{Word, words, onto}
 use Rattle.std.proofs.lemmas.List.{drop-drop, length-drop}
 use Rattle.std.proofs.lemmas.Bool.{cases_lt, lt-ltb, le-ltb, le-leb, lt-leb, eq-eqb, ne_eqb}
 use Rattle.texts.proofs.Cuts.{take_upto}

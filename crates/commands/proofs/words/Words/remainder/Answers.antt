@@ -1,4 +1,4 @@
-use Rattle.std.proofs.Common.{◌≡◌, ℕ, ◌+◌, ◌-◌, ◌<◌, ◌≤◌, List, [], length, drop, Some, None, Ok, Option, Bor, sym, refl, ap, ◌∙◌, inl, inr, arith}
+use Rattle.std.proofs.Common.{◌≡◌, ℕ, List, length, drop, Some, None, Ok, Option, Bor, sym, refl, ap, ◌∙◌, inl, inr, arith}
 use Rattle.commands.specs.Ahead.{on, left}
 use Rattle.commands.specs.Forms.{rest}
 use Rattle.commands.specs.declared.fault.CommandFault.TheVariants.{Line}
