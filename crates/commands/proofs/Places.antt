@@ -1,10 +1,8 @@
 -- The words from a place on: the first, and those after it. Assumes nothing.
-use Rattle.std.proofs.Common.{◌≡◌, ℕ, suc, ◌+◌, ◌-◌, ◌≤◌, true, false, cond, eqb, ltb, leb, List, [], ◌∷◌, length, take, drop, Some, Ok, sym, refl, ap, ◌∙◌, inl, inr, arith}
-use Rattle.commands.specs.Forms.{next, wrong, then, known, form, spoken}
-use Rattle.commands.specs.Spans.{on, part, taken}
-use Rattle.commands.specs.Words.{Word, words, onto, pick, heads}
-use Rattle.commands.specs.declared.span.Span.{Span}
-use Rattle.commands.specs.declared.word.Head.{Head}
+use Rattle.std.proofs.Common.{◌≡◌, ℕ, suc, ◌+◌, ◌-◌, ◌<◌, ◌≤◌, true, false, cond, eqb, ltb, leb, List, [], ◌∷◌, length, take, drop, Ok, sym, refl, ap, ◌∙◌, inl, inr, arith}
+use Rattle.commands.specs.Forms.{next, wrong}
+use Rattle.commands.specs.Ahead.{on}
+use Rattle.commands.specs.Words.{Word, words, onto}
 use Rattle.std.proofs.lemmas.List.{drop-drop, length-drop}
 use Rattle.std.proofs.lemmas.Bool.{cases_lt, lt-ltb, le-ltb, le-leb, lt-leb, eq-eqb, ne_eqb}
 use Rattle.texts.proofs.Cuts.{take_upto}
@@ -35,9 +33,13 @@ words_first at (b ∷ bs) =
       | false ↦ ap (onto at b) ih ∙ ap (λ ws. record { place = at; text = b ∷ u } ∷ ws) tail
     ]
 
+-- from past the line's end on there is no word
+pub on_past : (line : List ℕ) (from : ℕ) → length line < from → on line from ≡ []
+on_past line from h = ap (λ t. cond t (words from (drop from line)) []) (lt-leb from (length line) h)
+
 -- a place in the line, or at its end, has a word: up to the next space, and then the words after that space
 pub on_word : (line : List ℕ) (from to : ℕ) → from ≤ length line → to ≡ from + length (upto 32 (drop from line))
-    → on line from ≡ record { place = from; text = part line (record { from = from; to = to }) } ∷ on line (to + 1)
+    → on line from ≡ record { place = from; text = take (to - from) (drop from line) } ∷ on line (to + 1)
 on_word line from to h e =
     let bs = drop from line in
     let n = length (upto 32 bs) in
@@ -57,24 +59,15 @@ on_word line from to h e =
 
 -- the word that is asked for next is empty, or it is not
 module _ (line : List ℕ) (from to : ℕ) (h : from ≤ length line) (e : to ≡ from + length (upto 32 (drop from line))) where
-  long : length (part line (record { from = from; to = to })) ≡ to - from
+  long : length (take (to - from) (drop from line)) ≡ to - from
   long = ap (λ k. length (take k (drop from line))) (omega arith) ∙ ap length (take_upto 32 (drop from line)) ∙ (omega arith)
 
   pub empty_word : to ≡ from → wrong from ≡ next line (on line from)
   empty_word none =
-      let test = eq-eqb (length (part line (record { from = from; to = to }))) 0 (omega (arith, long)) in
-      sym (ap (next line) (on_word line from to h e) ∙ ap (λ t. cond t (wrong from) (Ok (record { place = from; text = part line (record { from = from; to = to }) }, on line (to + 1)))) test)
+      let test = eq-eqb (length (take (to - from) (drop from line))) 0 (omega (arith, long)) in
+      sym (ap (next line) (on_word line from to h e) ∙ ap (λ t. cond t (wrong from) (Ok (record { place = from; text = take (to - from) (drop from line) }, on line (to + 1)))) test)
 
-  pub full_word : (to ≡ from → ⊥) → taken line (Ok (record { from = from; to = to })) ≡ next line (on line from)
+  pub full_word : (to ≡ from → ⊥) → Ok (record { place = from; text = take (to - from) (drop from line) }, on line (to + 1)) ≡ next line (on line from)
   full_word some =
-      let test = ne_eqb (length (part line (record { from = from; to = to }))) 0 (λ z. some (omega (arith, long))) in
-      sym (ap (next line) (on_word line from to h e) ∙ ap (λ t. cond t (wrong from) (Ok (record { place = from; text = part line (record { from = from; to = to }) }, on line (to + 1)))) test)
-
--- a line's first word and what it stands for decide the form
-pub by_head : (line : List ℕ) (x : Span) (head : Head) → taken line (Ok x) ≡ next line (on line 0) → Some head ≡ pick heads (part line x)
-    → form head line (on line (x.to + 1)) ≡ spoken line
-by_head line x head first meant =
-    let w : Word = record { place = x.from; text = part line x } in
-    let ws = on line (x.to + 1) in
-    let all : on line 0 ≡ words 0 line = ap (λ t. cond t (words 0 line) []) (le-leb 0 (length line) (omega arith)) in
-    ap (λ h. then (known h w) (λ k. form k line ws)) meant ∙ ap (λ v. then v (λ p. then (known (pick heads p.0.text) p.0) (λ k. form k line p.1))) (first ∙ ap (next line) all)
+      let test = ne_eqb (length (take (to - from) (drop from line))) 0 (λ z. some (omega (arith, long))) in
+      sym (ap (next line) (on_word line from to h e) ∙ ap (λ t. cond t (wrong from) (Ok (record { place = from; text = take (to - from) (drop from line) }, on line (to + 1)))) test)
