@@ -1,6 +1,8 @@
 -- What put and drop leave in a log is what a store's put and drop leave.
-use Rattle.std.proofs.Common.{◌≡◌, ℕ, suc, ◌+◌, ◌-◌, ◌<◌, ◌≤◌, Bool, true, false, cond, not, ◌&&◌, ltb, leb, List, [], ◌∷◌, ◌++◌, length, take, drop, set, is_some, Some, None, Option, sym, refl, ap, ◌∙◌, subst, ⊎_elim, arith, length-append, length-drop, length-set, le-ltb, lt-ltb, leb-false}
+use Rattle.std.proofs.Common.{◌≡◌, ℕ, suc, ◌+◌, ◌-◌, ◌<◌, ◌≤◌, Bool, true, false, cond, not, ◌&&◌, ltb, leb, List, [], ◌∷◌, ◌++◌, length, take, drop, set, is_some, Some, None, Option, sym, refl, ap, ◌∙◌, subst, ⊎_elim, arith, length-append, length-drop, length-set, add-one, le-ltb, lt-ltb, leb-false}
 use borrow.Author.Tests.{both_ways}
+use Rattle.std.proofs.lemmas.Bool.Decides.{nat_tests}
+use Rattle.std.proofs.lemmas.Grind.{common_steps}
 use Rattle.std.proofs.lemmas.List.{take_more_set, take_at, length-take}
 use Rattle.std.proofs.lemmas.Bool.{cases_Bool, cases_lt}
 use Rattle.logs.specs.declared.entry.Entry.{Entry}
@@ -8,7 +10,7 @@ use Rattle.logs.specs.declared.entry.Entry.TheVariants.{Put, Dropped}
 use Rattle.logs.specs.Logs.{Book, written, names, tells, told, live, squeezed, noted, appended, counted, value_of, put_refuses, put_book, drop_book, pairs, room, Sound}
 use Rattle.stores.specs.Pairs.{look, turned, full, more, Kept}
 use Rattle.stores.proofs.Laws.{Lawful}
-use Rattle.logs.proofs.Parts.{told_push}
+use Rattle.std.proofs.lemmas.List.Sums.{fold_push}
 use Rattle.stores.proofs.Counts.{bit}
 use Rattle.logs.proofs.Tolds.{length_live, live_live, length_pairs, look_live, lone_live, told_live, told_same, live_push}
 
@@ -24,26 +26,16 @@ module _ {K V : Type 0} (alike : K → K → Bool) where
   -- a record written at a place that there is
   noted_fits : (e : Entry K V) (b : Book K V) → b.used < length b.entries →
       (written (noted alike e b) ≡ written b ++ e ∷ []) × ((noted alike e b).used ≤ length (noted alike e b).entries)
-  noted_fits e b l =
-      let u : (noted alike e b).used ≡ b.used + 1 = ap (λ (t : Bool). cond t (suc b.used) b.used) (lt-ltb b.used (length b.entries) l) ∙ omega arith in (
-        ap (λ (n : ℕ). take n (set b.entries b.used e)) u ∙ take_more_set b.entries b.used e l,
-        omega (arith, u, l, length-set b.entries b.used e),
-      )
+  noted_fits e b l = (grind (arith, nat_tests, common_steps), grind (arith, nat_tests, length-set))
 
   squeezed_size : (b : Book K V) → length (squeezed alike b).entries ≡ length b.entries
-  squeezed_size b =
-      let L = live alike (written b) in
-      omega (arith, length-append L (drop (length L) b.entries), length-drop (length L) b.entries, length_live alike (written b), length-take b.used b.entries)
+  squeezed_size b = grind (arith, length-append, length-drop, length-take, length_live)
 
   squeezed_written : (b : Book K V) → written (squeezed alike b) ≡ live alike (written b)
-  squeezed_written b = take_at (live alike (written b)) (drop (length (live alike (written b))) b.entries) (length (live alike (written b))) refl
+  squeezed_written b = take_at _ _ _ refl
 
   pub appended_size : (e : Entry K V) (b : Book K V) → length (appended alike e b).entries ≡ length b.entries
-  appended_size e b =
-      let r = cond (ltb b.used (length b.entries)) b (squeezed alike b) in
-      let s : length r.entries ≡ length b.entries =
-      elim (ltb b.used (length b.entries)) as (λ t. length (cond t b (squeezed alike b)).entries ≡ length b.entries) [ true ↦ refl | false ↦ squeezed_size b ] in
-      length-set r.entries r.used e ∙ s
+  appended_size e b = grind (arith, length-set, squeezed_size)
 
 module _ {K V : Type 0} (alike : K → K → Bool) (bucket : K → ℕ) (L : Lawful alike bucket) (b : Book K V) (S : Sound alike b) where
   appended_adds : (e : Entry K V) → Adds alike b (appended alike e b) e
@@ -81,7 +73,7 @@ module _ {K V : Type 0} (alike : K → K → Bool) (bucket : K → ℕ) (L : Law
   adds_live = omega (arith, ap (λ (xs : List (Entry K V)). length (live alike xs)) A.is, live_push alike bucket L k e of A.base, A.many, ap (λ (o : Option V). bit (is_some o)) (A.same k))
 
   adds_told : (q : K) → value_of alike b' q ≡ tells alike q (value_of alike b q) e
-  adds_told q = ap (told alike q None) A.is ∙ told_push alike q None A.base e ∙ ap (λ (o : Option V). tells alike q o e) (A.same q)
+  adds_told q = ap (told alike q None) A.is ∙ fold_push (tells alike q) None A.base e ∙ ap (λ (o : Option V). tells alike q o e) (A.same q)
 
 more_bit : (t : Bool) (n m : ℕ) → m + bit t ≡ 1 + n → m ≡ more t n
 more_bit true n m h = omega arith
@@ -102,10 +94,7 @@ module _ {K V : Type 0} (alike : K → K → Bool) (bucket : K → ℕ) (L : Law
   put_yes f = e ∙ ap (λ (t : Bool). cond t b new) f
 
   pub put_room : room b' ≡ room b
-  put_room =
-      ⊎_elim (λ (f : put_refuses alike b k ≡ true). ap room (put_no f))
-      (λ (f : put_refuses alike b k ≡ false). ap room (put_yes f) ∙ ap (λ (n : ℕ). n - 1) (appended_size alike (Put k v) b))
-      (cases_Bool (put_refuses alike b k))
+  put_room = grind (arith, appended_size alike (Put k v) b)
 
   module _ (S : Sound alike b) where
     new_adds : Adds alike b new (Put k v)
@@ -126,26 +115,16 @@ module _ {K V : Type 0} (alike : K → K → Bool) (bucket : K → ℕ) (L : Law
         }
 
     pub put_stays : Sound alike b'
-    put_stays =
-        ⊎_elim (λ (f : put_refuses alike b k ≡ true). subst (Sound alike) (sym (put_no f)) S)
-        (λ (f : put_refuses alike b k ≡ false). subst (Sound alike) (sym (put_yes f)) (new_sound f))
-        (cases_Bool (put_refuses alike b k))
+    put_stays = grind (arith, put_no, put_yes, new_sound)
 
     pub put_refused : full alike (pairs alike b) (room b) k ≡ true → b' ≡ b
-    put_refused f = put_no (sym (full_is alike bucket L b S k) ∙ f)
+    put_refused f = grind (arith, put_no, full_is alike bucket L b S k)
 
     pub put_found : full alike (pairs alike b) (room b) k ≡ false → (q : K) → look alike (pairs alike b') q ≡ turned alike (look alike (pairs alike b)) k (Some v) q
-    put_found f q =
-        let y = put_yes (sym (full_is alike bucket L b S k) ∙ f) in
-        look_live alike bucket L q (written b') ∙ ap (λ (x : Book K V). value_of alike x q) y ∙ adds_told alike bucket L b new k (Put k v) (λ j. refl) new_adds q
-        ∙ ap (λ (o : Option V). cond (alike k q) (Some v) o) (sym (look_pairs alike bucket L b S q))
+    put_found f q = grind (arith, full_is alike bucket L b S k, put_yes, look_live, adds_told alike bucket L b new k (Put k v) (λ j. refl) new_adds q, look_pairs alike bucket L b S)
 
     pub put_many : full alike (pairs alike b) (room b) k ≡ false → length (pairs alike b') ≡ more (is_some (look alike (pairs alike b) k)) (length (pairs alike b))
-    put_many f =
-        let y = put_yes (sym (full_is alike bucket L b S k) ∙ f) in
-        length_pairs alike (written b') ∙ ap (λ (x : Book K V). length (live alike (written x))) y ∙ new_live
-        ∙ ap (λ (n : ℕ). more (is_some (value_of alike b k)) n) (sym (many_pairs alike bucket L b S))
-        ∙ ap (λ (o : Option V). more (is_some o) (length (pairs alike b))) (sym (look_pairs alike bucket L b S k))
+    put_many f = grind (arith, full_is alike bucket L b S k, put_yes, length_pairs, new_live, many_pairs alike bucket L b S, look_pairs alike bucket L b S)
 
 module _ {K V : Type 0} (alike : K → K → Bool) (bucket : K → ℕ) (L : Lawful alike bucket) (b b' : Book K V) (k : K) (r : Bool)
     (a : r ≡ is_some (value_of alike b k)) (e : b' ≡ drop_book alike b k) where
@@ -159,14 +138,11 @@ module _ {K V : Type 0} (alike : K → K → Bool) (bucket : K → ℕ) (L : Law
   drop_yes f = e ∙ ap (λ (t : Bool). cond t cut b) (sym a ∙ f)
 
   pub drop_room : room b' ≡ room b
-  drop_room =
-      ⊎_elim (λ (f : r ≡ true). ap room (drop_yes f) ∙ ap (λ (n : ℕ). n - 1) (appended_size alike (Dropped k) b))
-      (λ (f : r ≡ false). ap room (drop_refused f))
-      (cases_Bool r)
+  drop_room = grind (arith, appended_size alike (Dropped k) b)
 
   module _ (S : Sound alike b) where
     pub drop_answer : r ≡ is_some (look alike (pairs alike b) k)
-    drop_answer = a ∙ sym (ap is_some (look_pairs alike bucket L b S k))
+    drop_answer = grind (arith, look_pairs alike bucket L b S)
 
     cut_adds : Adds alike b cut (Dropped k)
     cut_adds = let A = appended_adds alike bucket L b S (Dropped k) in record { base = A.base; is = A.is; same = A.same; many = A.many; within = A.within }
@@ -210,9 +186,4 @@ module _ {K V : Type 0} (alike : K → K → Bool) (bucket : K → ℕ) (L : Law
         same_none q t h = sym (told_same alike bucket L k q None (written b) t) ∙ none_of (value_of alike b k) h
 
     pub drop_many : more r (length (pairs alike b)) ≡ suc (length (pairs alike b'))
-    drop_many =
-        ⊎_elim (λ (f : r ≡ true).
-        ap (λ (t : Bool). more t (length (pairs alike b))) f ∙ many_pairs alike bucket L b S ∙ sym (cut_live f)
-        ∙ ap (λ (x : Book K V). suc (length (live alike (written x)))) (sym (drop_yes f)) ∙ ap suc (sym (length_pairs alike (written b'))))
-        (λ (f : r ≡ false). ap (λ (t : Bool). more t (length (pairs alike b))) f ∙ ap (λ (x : Book K V). suc (length (pairs alike x))) (sym (drop_refused f)))
-        (cases_Bool r)
+    drop_many = grind (arith, cases_Bool r, drop_yes, drop_refused, length_pairs, cut_live, many_pairs alike bucket L b S)
