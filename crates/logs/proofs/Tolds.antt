@@ -1,12 +1,10 @@
 -- What a list of records tells: the live ones tell the same, have each key once, and one more record changes them at its own key.
-use Rattle.std.proofs.Common.{◌≡◌, ℕ, suc, ◌+◌, ◌≤◌, Bool, true, false, cond, not, ◌||◌, List, [], ◌∷◌, ◌++◌, length, is_some, Some, None, Option, sym, refl, ap, ◌∙◌, subst, ⊎_elim, arith}
-use borrow.Author.Tests.{both_ways}
+use Rattle.std.proofs.Common.{◌≡◌, ℕ, ◌+◌, ◌≤◌, Bool, true, false, cond, List, [], ◌∷◌, ◌++◌, length, is_some, None, Option, sym, refl, ap, ◌∙◌, arith}
 use Rattle.std.specs.List.{flat_map}
-use Rattle.std.proofs.lemmas.Bool.{cases_Bool}
 use Rattle.std.proofs.lemmas.List.Folds.{list_any-append}
 use Rattle.logs.specs.declared.entry.Entry.{Entry}
 use Rattle.logs.specs.declared.entry.Entry.TheVariants.{Put, Dropped}
-use Rattle.logs.specs.Logs.{names, named, tells, told, lasts, live, pair_in}
+use Rattle.logs.specs.Logs.{names, named, tells, told, live, pair_in}
 use Rattle.stores.specs.Pairs.{look, Lone}
 use Rattle.stores.proofs.Counts.{bit}
 use Rattle.stores.proofs.Laws.{Lawful, alike_eq}

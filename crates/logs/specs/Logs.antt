@@ -14,7 +14,7 @@
 -- Sound: what a new log has and every call keeps
 -- fits_log: the lengths that a log may have
 -- room: the capacity
-use Rattle.std.specs.Prelude.{◌≡◌, ℕ, suc, ◌-◌, ◌≤◌, Bool, true, false, cond, not, ◌&&◌, List, [], ◌∷◌, ◌++◌, length, take, drop, is_some, Some, None, Option, nat_le, nat_lt, slice_set}
+use Rattle.std.specs.Prelude.{◌≡◌, ℕ, suc, ◌-◌, ◌≤◌, Bool, false, cond, not, ◌&&◌, List, [], ◌∷◌, ◌++◌, length, take, drop, is_some, Some, None, Option, nat_le, nat_lt, slice_set}
 use Rattle.std.specs.List.{flat_map, fold, list_any}
 use Rattle.logs.specs.declared.entry.Entry.{Entry}
 use Rattle.logs.specs.declared.entry.Entry.TheVariants.{Put, Dropped}

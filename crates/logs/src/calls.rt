@@ -1,4 +1,4 @@
-// The calls of the log over any lent list of records.
+// The calls of the log over any lent list of records. List and fill come apart: by the rules a log's methods hand the list to functions.
 ghost use Rattle.std.specs.Prelude.{◌≡◌, is_some, if◌then◌else◌, Ok, Err};
 ghost use Rattle.std.specs.Option.{unwrap_or};
 ghost use Rattle.logs.specs.Logs.{book, value_of, put_refuses, put_book, drop_book};

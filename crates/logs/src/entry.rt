@@ -2,6 +2,7 @@
 ghost use Rattle.std.specs.Prelude.{◌≡◌};
 ghost use Rattle.logs.specs.Logs.{key_of, value_in};
 
+// By the rules a record is a put or a drop, so this is no pair of a key and an Option.
 #[derive(Clone, Copy, PartialEq, Eq, Debug)]
 pub enum Entry<K, V> {
     Put(K, V),

@@ -12,9 +12,11 @@ pub(crate) fn squeeze<K: Key + Copy, V: Copy>(entries: &mut [Entry<K, V>]) -> us
     ensures many { result ≡ length (live K.Key.alike entries.old) }
     ensures after { entries.new ≡ live K.Key.alike entries.old ++ drop (length (live K.Key.alike entries.old)) entries.old }
 {
+    // It writes into the list that it reads, so both go by index.
     let mut w = 0;
     for i in 0..entries.len() {
         let e = entries[i];
+        // The check covers no `&entries[i + 1..]` of a list that is lent to be written.
         let (_, later) = entries.split_at(i + 1);
         if stays(&e, later) {
             entries[w] = e;
@@ -33,6 +35,7 @@ pub(crate) fn note<K: Drop, V: Drop>(
     ensures end { result ≡ (if nat_lt at (length entries.old) then suc at else at) }
     ensures after { entries.new ≡ slice_set entries.old at e }
 {
+    // Of a slice's `get_mut` a proof learns the length and no element.
     if at < entries.len() {
         entries[at] = e;
         at + 1

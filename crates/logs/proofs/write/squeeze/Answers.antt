@@ -1,6 +1,5 @@
 use Rattle.std.proofs.Common.{arith}
 use Rattle.std.proofs.lemmas.Grind.{common_steps}
-use Rattle.std.proofs.lemmas.List.{drop-set-lt, drop-drop}
 use Rattle.logs.proofs.Parts.{stays_step, goes_step}
 use Rattle.logs.proofs.write.squeeze.Goals as goal
 use Rattle.logs.proofs.write.squeeze.Goals.{then-stays, else-stays}
