@@ -1,25 +1,30 @@
 -- One record of a chain table read through its columns.
-use Rattle.std.proofs.Common.{◌≡◌, ℕ, ◌<◌, ◌≤◌, Bool, false, cond, List, [], ◌∷◌, map, length, get_or, Some, None, refl, ap, ◌∙◌, ne_eqb}
+use Rattle.std.proofs.Common.{◌≡◌, ℕ, zero, suc, ◌<◌, ◌≤◌, Bool, false, cond, List, [], ◌∷◌, map, length, get_or, Some, None, sym, refl, ap, ◌∙◌, ne_eqb}
 use lib.ListN.{length-map}
+use lib.Seq.{map-set, map-set_same}
+use Rattle.std.specs.List.{slice_get}
 use Rattle.std.proofs.lemmas.List.{get_or-map, get_or_past}
 use Rattle.chains.specs.declared.node.Node.{Node}
 use Rattle.chains.specs.Tables.{Table, table, held, marks}
 
+-- what a write to one record leaves in each column
+pub ruleset writes = (map-set, map-set_same)
+
 module _ {K V : Type 0} (ns : List (Node K V)) (x : ℕ) where
-  pub held_is : (d : Node K V) → (x ≡ 0 → ⊥) → x < length ns → held (table ns).values x ≡ Some (get_or ns x d).value
-  held_is d p h =
-      ap (λ (b : Bool). cond b None (get_or (map (λ v. Some v) (table ns).values) x None)) (ne_eqb x 0 p)
-      ∙ get_or-map (λ v. Some v) (table ns).values x d.value None (rw length-map h)
-      ∙ ap (λ v. Some v) (get_or-map (λ n. n.value) ns x d d.value h)
+  pub mark_is : (alike : K → K → Bool) (k : K) (d : Node K V) → x < length ns → d ≡ get_or ns x d → get_or (marks alike k (table ns).keys) x false ≡ alike d.key k
+  mark_is alike k d h e =
+      get_or-map (λ y. alike y k) (table ns).keys x d.key false (rw length-map h) ∙ ap (λ y. alike y k) (get_or-map (λ n. n.key) ns x d d.key h) ∙ ap (λ (n : Node K V). alike n.key k) (sym e)
 
-  pub held_out : (x ≡ 0 → ⊥) → length ns ≤ x → held (table ns).values x ≡ None
-  held_out p h =
-      ap (λ (b : Bool). cond b None (get_or (map (λ v. Some v) (table ns).values) x None)) (ne_eqb x 0 p)
-      ∙ get_or_past (map (λ v. Some v) (table ns).values) x None (rw (length-map, length-map) h)
+  pub mark_out : (alike : K → K → Bool) (k : K) → length ns ≤ x → get_or (marks alike k (table ns).keys) x false ≡ false
+  mark_out alike k h = get_or_past (marks alike k (table ns).keys) x false (rw (length-map, length-map) h)
 
-  pub mark_is : (alike : K → K → Bool) (k : K) (d : Node K V) → x < length ns → get_or (marks alike k (table ns).keys) x false ≡ alike (get_or ns x d).key k
-  mark_is alike k d h =
-      get_or-map (λ y. alike y k) (table ns).keys x d.key false (rw length-map h) ∙ ap (λ y. alike y k) (get_or-map (λ n. n.key) ns x d d.key h)
+some_at : {V : Type 0} (vs : List V) (x : ℕ) → get_or (map (λ v. Some v) vs) x None ≡ slice_get vs x
+some_at [] x = refl
+some_at (v ∷ vs) zero = refl
+some_at (v ∷ vs) (suc x) = some_at vs x
+
+pub held_is : {V : Type 0} (vs : List V) (x : ℕ) → (x ≡ 0 → ⊥) → held vs x ≡ slice_get vs x
+held_is vs x p = ap (λ (b : Bool). cond b None (get_or (map (λ v. Some v) vs) x None)) (ne_eqb x 0 p) ∙ some_at vs x
 
 -- two tables with the same columns are the same
 pub same_table : {K V : Type 0} (s t : Table K V) → s.links ≡ t.links → s.keys ≡ t.keys → s.values ≡ t.values → s ≡ t

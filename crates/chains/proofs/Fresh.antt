@@ -1,11 +1,17 @@
 -- A table whose free chain has every record past the heads is sound and has no pair.
-use Rattle.std.proofs.Common.{◌≡◌, ℕ, zero, suc, ◌+◌, ◌-◌, ◌<◌, ◌≤◌, Bool, true, cond, ltb, List, [], length, get_or, sym, refl, ap, ◌∙◌, subst, ⊎_elim, arith, le-ltb, lt-ltb}
+use Rattle.std.proofs.Common.{◌≡◌, ℕ, zero, suc, ◌+◌, ◌-◌, ◌<◌, ◌≤◌, Bool, true, cond, ltb, List, [], length, get_or, set, sym, refl, ap, ◌∙◌, subst, ⊎_elim, arith, le-ltb, lt-ltb}
+use lib.ListN.{length-map}
+use lib.Seq.{map-set}
 use borrow.Author.Tests.{clash}
 use Rattle.std.proofs.lemmas.Bool.{cases_eq}
-use Rattle.std.specs.List.{range_with_len}
-use Rattle.std.proofs.lemmas.List.FromFn.{length-range_with_len}
+use Rattle.std.specs.List.{range_with_len, flat_map}
+use Rattle.std.proofs.lemmas.List.{nil_from_length}
+use Rattle.std.proofs.lemmas.List.Edits.{fill_by_more}
+use Rattle.std.proofs.lemmas.List.FromFn.{length-range_with_len, fill_by_all}
+use Rattle.chains.specs.declared.node.Node.{Node}
 use Rattle.chains.specs.Chains.{run, Ends, has, chain, in_use, Linked, laid}
-use Rattle.chains.specs.Tables.{Sound}
+use Rattle.chains.specs.Tables.{table, fresh_table, Sound, pairs, pair_at}
+use Rattle.chains.proofs.Columns.{same_table}
 use Rattle.chains.proofs.Walks.{run_ends, run_zero}
 use Rattle.chains.proofs.Shifts.{in_use_more, in_use_none}
 
@@ -77,3 +83,32 @@ module _ (ls : List ℕ) (L : (i : ℕ) → i < length ls → get_or ls i 0 ≡ 
     homed = λ h x l t. absurd (nowhere h x l t);
     lone = λ k x y t. absurd (nowhere (bucket k) x (small k) t);
   }
+
+-- one more record laid out
+pub laid_more : {K V : Type 0} (f : ℕ → ℕ) (ns : List (Node K V)) (i : ℕ) (m : Node K V) → i < length ns → m.next ≡ f i
+    → ((k : ℕ) → k < i → get_or (table ns).links k 0 ≡ f k) → (k : ℕ) → k < i + 1 → get_or (table (set ns i m)).links k 0 ≡ f k
+laid_more f ns i m h e L k l =
+    ap (λ (zs : List ℕ). get_or zs k 0) (map-set (λ n. n.next) ns i m ∙ ap (set (table ns).links i) e) ∙ fill_by_more f (table ns).links i 0 (rw length-map h) L k l
+
+-- what is left once every record was laid out
+module _ {K V : Type 0} (alike : K → K → Bool) (bucket : K → ℕ) where
+  pub record Formatted (old ns : List (Node K V)) : Type 0 where
+    pub after : table ns ≡ fresh_table (table old)
+    pub sound : Sound alike bucket (table ns)
+    pub empty : pairs ns ≡ []
+
+  pub formatted : ((x : K) → bucket x < 16) → (old ns : List (Node K V)) → length ns ≡ length old → 18 ≤ length old → length old ≤ 65536
+      → ((k : ℕ) → k < length old → get_or (table ns).links k 0 ≡ laid (length old) k) → (table ns).keys ≡ (table old).keys → (table ns).values ≡ (table old).values
+      → Formatted old ns
+  formatted small old ns size long short L ks vs =
+      let n = length (table old).links in
+      let ls = (table ns).links in
+      let m : n ≡ length old = length-map old (λ n. n.next) in
+      let s : length ls ≡ length old = length-map ns (λ n. n.next) ∙ size in
+      let L' : (k : ℕ) → k < length ls → get_or ls k 0 ≡ laid (length ls) k = λ k h. L k (omega arith) ∙ ap (λ (j : ℕ). laid j k) (sym s) in
+      record {
+        after = same_table (table ns) (fresh_table (table old)) (fill_by_all (laid n) ls n 0 (s ∙ sym m) (λ k h. L k (omega arith) ∙ ap (λ (j : ℕ). laid j k) (sym m))) ks vs;
+        sound = fresh_sound ls L' (omega arith) (omega arith) alike bucket small (table ns).keys (table ns).values
+            (length-map ns (λ n. n.key) ∙ sym (length-map ns (λ n. n.next))) (length-map ns (λ n. n.value) ∙ sym (length-map ns (λ n. n.next)));
+        empty = ap (flat_map (pair_at ns)) (nil_from_length (in_use ls 16) (nought ls L' (omega arith) (omega arith) 16 (omega arith)));
+      }

@@ -24,6 +24,17 @@ module _ (n i : ℕ) (ls : List ℕ) (ms : List Bool) where
   before_turn p zero l z = absurd (z refl)
   before_turn p (suc j) l z = ap (λ (f : ℕ). before p ms (run f ls (suc j))) (less l)
 
+-- one turn at a record x that stands after p
+pub record Turn (n i : ℕ) (ls : List ℕ) (ms : List Bool) (p x : ℕ) : Type 0 where
+  pub at : seek ms (run (n - i) ls x) ≡ cond (get_or ms x false) x (seek ms (run (n - (i + 1)) ls (get_or ls x 0)))
+  pub before : before p ms (run (n - i) ls x) ≡ cond (get_or ms x false) p (before x ms (run (n - (i + 1)) ls (get_or ls x 0)))
+
+pub turn : (n i : ℕ) (ls : List ℕ) (ms : List Bool) (p x : ℕ) → i < n → (x ≡ 0 → ⊥) → Turn n i ls ms p x
+turn n i ls ms p zero l z = absurd (z refl)
+turn n i ls ms p (suc j) l z =
+    let e : n - i ≡ suc (n - (i + 1)) = omega arith in
+    record { at = ap (λ (f : ℕ). seek ms (run f ls (suc j))) e; before = ap (λ (f : ℕ). before p ms (run f ls (suc j))) e }
+
 pub length_run : (f : ℕ) (ls : List ℕ) (at : ℕ) → length (run f ls at) ≤ f
 length_run zero ls at = omega arith
 length_run (suc f) ls zero = omega arith
