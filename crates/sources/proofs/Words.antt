@@ -2,7 +2,7 @@
 use Rattle.std.proofs.Common.{◌≡◌, ℕ, zero, suc, ◌+◌, ◌-◌, ◌*◌, ◌/◌, ◌%◌, ◌^◌, ◌<◌, ◌≤◌, min, true, false, cond, eqb, ◌⊎◌, List, [], ◌∷◌, ◌++◌, length, get_or, drop, set, sum_by, sym, refl, ap, ◌∙◌, subst, ap₂, inl, inr, ⊎_elim, add-zero, mod-eq_of_lt, pow-suc, zero-add, arith, length-drop}
 use lib.Bits.{bit_and, and_step, and_self, and_mask}
 use lib.Count.{ones, ones_step, count_trailing_zeros, under}
-use Rattle.std.proofs.lemmas.List.{drop_more, length-append, get_or_append_left, get_or-append_right, append-nil}
+use Rattle.std.proofs.lemmas.List.{drop_more, length-append, append-nil}
 use Rattle.std.proofs.lemmas.List.Recursion.{is_sum_by}
 use Rattle.std.proofs.lemmas.Bool.{cases_eq, cases_lt, ne_eqb, eq-eqb, cond-true, cond-false}
 use Rattle.std.proofs.lemmas.Nat.{pow_pos, pow_below}
@@ -101,16 +101,6 @@ live_sum b ws = same b ws ∙ is_sum_by ones_in (λ w. length (bits_from 64 0 w)
     same : (b : ℕ) (ws : List ℕ) → length (live_in b ws) ≡ ones_in ws
     same b [] = refl
     same b (w ∷ ws) = length-append (bits_from 64 b w) (live_in (b + 64) ws) ∙ ap₂ (λ (m n : ℕ). m + n) (long_same 64 b 0 w) (same (b + 64) ws)
-
--- the words of a map, one after another
-pub live_more : (b i : ℕ) (ws : List ℕ) → i < length ws → length (live_in b (drop i ws)) ≡ length (bits_from 64 b (get_or ws i 0)) + length (live_in (b + 64) (drop (i + 1) ws))
-live_more b i ws h = ap (λ (l : List ℕ). length (live_in b l)) (drop_more ws i 0 h) ∙ length-append (bits_from 64 b (get_or ws i 0)) (live_in (b + 64) (drop (i + 1) ws))
-
-pub at_here : (b i k : ℕ) (ws : List ℕ) → i < length ws → k < length (bits_from 64 b (get_or ws i 0)) → get_or (live_in b (drop i ws)) k 0 ≡ get_or (bits_from 64 b (get_or ws i 0)) k 0
-at_here b i k ws h l = ap (λ (xs : List ℕ). get_or (live_in b xs) k 0) (drop_more ws i 0 h) ∙ get_or_append_left (bits_from 64 b (get_or ws i 0)) (live_in (b + 64) (drop (i + 1) ws)) 0 k l
-
-pub at_later : (b i k n : ℕ) (ws : List ℕ) → i < length ws → n ≡ length (bits_from 64 b (get_or ws i 0)) → n ≤ k → get_or (live_in b (drop i ws)) k 0 ≡ get_or (live_in (b + 64) (drop (i + 1) ws)) (k - n) 0
-at_later b i k n ws h e l = ap (λ (xs : List ℕ). get_or (live_in b xs) k 0) (drop_more ws i 0 h) ∙ get_or-append_right (bits_from 64 b (get_or ws i 0)) (live_in (b + 64) (drop (i + 1) ws)) n k 0 (sym e) l
 
 -- ---- a bit cleared
 

@@ -29,7 +29,8 @@ impl Subcounters {
         requires { c < 293 }
         ensures { result ≡ covered self.now.total self.now.share c }
     {
-        self.share.min(self.total.saturating_sub(c as u64 * self.share))
+        self.share
+            .min(self.total.saturating_sub(c as u64 * self.share))
     }
 
     // How many subcounters are live.

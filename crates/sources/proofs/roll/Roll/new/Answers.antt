@@ -1,5 +1,5 @@
 -- A list with no wrong number is sound, and so is the empty one. Assumes nothing.
-use Rattle.std.proofs.Common.{◌≡◌, [], None, sym, ap, ◌∙◌, zero-le, subst}
+use Rattle.std.proofs.Common.{[], sym, ap, ◌∙◌, zero-le}
 use Rattle.sources.specs.Named.{total_of}
 use Rattle.sources.specs.RollLaws.{Sound, accepted_sound, sound_none}
 use Rattle.sources.specs.Rolls.{first_wrong}

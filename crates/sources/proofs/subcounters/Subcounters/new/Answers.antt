@@ -1,12 +1,9 @@
 -- A new generator's state. Assumes nothing.
-use Rattle.std.proofs.Common.{sym, refl, ap, ◌∙◌, zero-add, arith}
+use Rattle.std.proofs.Common.{sym, refl, ap, ◌∙◌, zero-add}
 use Rattle.sources.specs.Maps.{run}
 use Rattle.sources.specs.Subcounters.{none_given}
-use Rattle.sources.proofs.Drawing.{live_few, live_all, left_all}
+use Rattle.sources.proofs.Drawing.{live_all, left_all}
 use Rattle.sources.proofs.subcounters.Subcounters.new.Goals as goal
-
-pub fresh-map-requires : goal.fresh-map-requires
-fresh-map-requires c = let few = live_few c.args.total in omega arith
 
 pub invariant_of-result : goal.invariant_of-result
 invariant_of-result c = record {

@@ -1,5 +1,4 @@
 -- A draw from a roll. Assumes nothing.
-use Rattle.std.proofs.Common.{arith, rules}
 use Rattle.std.proofs.lemmas.List.{drop_more}
 use Rattle.sources.proofs.Rolling.{roll_drawn}
 use Rattle.sources.proofs.Stocks.{drawn_first}
