@@ -3,10 +3,9 @@ use commands::reading::read_command;
 
 // The place where a line is refused, or 1,000 for one that is read.
 fn place(line: &[u8]) -> usize {
-    match read_command(line) {
-        Ok(_) => 1000,
-        Err(fault) => fault.refusal().place,
-    }
+    read_command(line)
+        .err()
+        .map_or(1000, |fault| fault.refusal().place)
 }
 
 #[test]
