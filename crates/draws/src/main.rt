@@ -14,15 +14,15 @@ use sources::source::Source;
 use std::io::Read;
 
 fn print_refusal(rt: &impl Print, refusal: Refusal) -> anyhow::Result<()> {
-    let number = refusal.number;
-    let place = refusal.place;
-    println!(rt; "template refused {number}, place {place}")?;
+    println!(rt;
+        "template refused {}, place {}",
+        refusal.number, refusal.place
+    )?;
     Ok(())
 }
 
 fn print_name(rt: &impl Print, number: u64, name: Name) -> anyhow::Result<()> {
-    let text = std::str::from_utf8(name.as_slice())?;
-    println!(rt; "{text} number {number}")?;
+    println!(rt; "{name} number {number}")?;
     Ok(())
 }
 
@@ -48,7 +48,7 @@ fn print_draws(rt: &impl Print, input: &[u8]) -> anyhow::Result<()> {
     let mut lines = input.split(|b| *b == b'\n');
     match Template::read(lines.next().unwrap_or(&[])) {
         Ok(template) => print_names(rt, template, count_of(lines.next())?),
-        Err(fault) => print_refusal(rt, fault.refusal()),
+        Err(fault) => print_refusal(rt, fault.into()),
     }
 }
 

@@ -15,11 +15,7 @@ fn chain_refusal(heap: Global, records: usize) -> Result<Option<Refusal>, AllocE
         value: 0u64,
         next: 0
     }; records]?;
-    Ok(
-        format(nodes.as_mut_slice())
-            .err()
-            .map(|fault| fault.refusal()),
-    )
+    Ok(format(nodes.as_mut_slice()).err().map(Refusal::from))
 }
 
 pub(crate) fn try_lengths(tally: &mut Tally<'_>) -> anyhow::Result<()> {
@@ -27,6 +23,6 @@ pub(crate) fn try_lengths(tally: &mut Tally<'_>) -> anyhow::Result<()> {
     tally.refusal("25, a chain table of 17 records", came, 25, 0)?;
     let came = chain_refusal(tally.heap(), 65_537)?;
     tally.refusal("25, a chain table of 65,537 records", came, 25, 0)?;
-    let came = check_length(&[NO_TALLY]).err().map(|fault| fault.refusal());
+    let came = check_length(&[NO_TALLY]).err().map(Refusal::from);
     tally.refusal("25, a log of one record", came, 25, 0)
 }

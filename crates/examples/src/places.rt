@@ -85,10 +85,8 @@ const FILLINGS: [Filling; 3] = [
 
 fn add_lines(input: &mut String, template: &Template, lines: &Lines) -> Result<(), AllocError> {
     for n in 0..lines.names {
-        input.push_str(lines.before)?;
-        input.push_str(text_of(template.name(n).as_slice()))?;
-        input.push_str(lines.after)?;
-        input.push_str("\n")?;
+        let name = template.name(n);
+        writeln!(input, "{}{name}{}", lines.before, lines.after)?;
     }
     Ok(())
 }

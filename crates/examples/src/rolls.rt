@@ -11,7 +11,7 @@ use std::alloc::Global;
 // Why a roll of such numbers is refused, if it is.
 fn roll_refusal(numbers: &[u64]) -> anyhow::Result<Option<Refusal>> {
     let (_, fault) = Roll::new(template()?, numbers);
-    Ok(fault.map(|fault| fault.refusal()))
+    Ok(fault.map(Refusal::from))
 }
 
 // Why a hold of a name is refused over a roll, if it is.
@@ -19,7 +19,7 @@ fn hold_refusal(heap: Global, numbers: &[u64], name: &[u8]) -> anyhow::Result<Op
     let (roll, _) = Roll::new(template()?, numbers);
     let mut records = [NO_TEXT; 2];
     let mut register = Register::new(heap, roll, Log::over(&mut records))?;
-    Ok(register.hold(name).err().map(|fault| fault.refusal()))
+    Ok(register.hold(name).err().map(Refusal::from))
 }
 
 pub(crate) fn try_rolls(tally: &mut Tally<'_>) -> anyhow::Result<()> {

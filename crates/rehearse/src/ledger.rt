@@ -2,6 +2,7 @@
 use crate::kind::Kind;
 use crate::level::Level;
 use machine::call::{Answer, Call};
+use names::fault::Refusal;
 use std::alloc::{AllocError, Global};
 use std::collections::BTreeMap;
 
@@ -120,7 +121,7 @@ impl Ledger {
             Answer::Held(n) => self.hold(*n),
             Answer::Released(n) => self.release(*n),
             Answer::Ticked(_) | Answer::Bound(_) | Answer::Purged(_) => Ok(()),
-            Answer::Refused(fault) => self.refuse(fault.refusal().number),
+            Answer::Refused(fault) => self.refuse(Refusal::from(*fault).number),
         }
     }
 

@@ -42,7 +42,7 @@ pub(crate) fn tally<U: Store<TallyKey, u64>>(tallies: &mut U, fault: CommandFaul
     ensures after { U.Store.sound tallies.old → tallies_in (U.Store.pairs tallies.new) (U.Store.capacity tallies.new) ≡ tallied (command_refusal fault).number (tallies_in (U.Store.pairs tallies.old) (U.Store.capacity tallies.old)) }
     ensures sound { U.Store.sound tallies.old → U.Store.sound tallies.new }
 {
-    let number = fault.refusal().number;
+    let number = Refusal::from(fault).number;
     let _ = raise(tallies, TallyKey { number });
 }
 
@@ -75,7 +75,7 @@ pub fn write_fault(lines: u64, fault: CommandFault, out: &mut [u8], fill: usize)
         number,
         layer,
         place,
-    } = fault.refusal();
+    } = Refusal::from(fault);
     write_refusal(lines, number, layer, place, out, fill)
 }
 

@@ -1,11 +1,12 @@
 // Where lines are refused.
 use commands::reading::read_command;
+use names::fault::Refusal;
 
 // The place where a line is refused, or 1,000 for one that is read.
 fn place(line: &[u8]) -> usize {
     read_command(line)
         .err()
-        .map_or(1000, |fault| fault.refusal().place)
+        .map_or(1000, |fault| Refusal::from(fault).place)
 }
 
 #[test]
