@@ -5,4 +5,3 @@ mod Rooms
 mod Same
 mod Stops
 mod Stored
-mod Walk
