@@ -1,11 +1,11 @@
 -- What drop leaves in a chain table is what a store's drop leaves.
-use Rattle.std.proofs.Common.{◌≡◌, ℕ, suc, Bool, true, false, cond, not, eqb, List, length, is_some, None, ap, ⊎_elim, arith, length-set}
+use Rattle.std.proofs.Common.{◌≡◌, ℕ, suc, Bool, false, not, eqb, List, length, is_some, None, ap, ⊎_elim, arith, length-set}
 use lib.ListN.{length-map}
 use Rattle.std.proofs.lemmas.Bool.{cases_eq}
 use Rattle.chains.specs.declared.node.Node.{Node}
-use Rattle.chains.specs.Chains.{chain, in_use, link, unlink}
+use Rattle.chains.specs.Chains.{chain, link, unlink}
 use Rattle.stores.specs.Pairs.{look, turned, more}
-use Rattle.chains.specs.Tables.{Table, table, marks, spot, spot_before, found, drop_table, Sound, pairs, room}
+use Rattle.chains.specs.Tables.{Table, table, marks, spot, spot_before, drop_table, Sound, pairs, room}
 use Rattle.chains.proofs.Columns.{same_nodes}
 use Rattle.chains.proofs.Drops.{dropped, dropped_sound, dropped_count}
 use Rattle.chains.proofs.Gathers.{look_pairs, length_pairs, spot_held}

@@ -1,7 +1,7 @@
 -- A key's record moved to the free chain: what is found then, and that the table stays sound.
 use Rattle.std.proofs.Common.{◌≡◌, ℕ, suc, ◌<◌, Bool, true, false, cond, List, length, get_or, None, sym, ap, ◌∙◌, arith}
 use Rattle.std.proofs.lemmas.Bool.{cases_eq, cases_Bool}
-use Rattle.chains.specs.Chains.{seek, has, chain, in_use}
+use Rattle.chains.specs.Chains.{has, chain, in_use}
 use Rattle.chains.specs.Tables.{Table, marks, held, Sound}
 use Rattle.stores.proofs.Laws.{Lawful}
 use Rattle.chains.proofs.Moves.{without, Moved, without_has, gone}

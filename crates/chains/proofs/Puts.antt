@@ -1,5 +1,5 @@
 -- A free record moved to the chain of a new key: what is found then, and that the table stays sound.
-use Rattle.std.proofs.Common.{◌≡◌, ℕ, suc, ◌<◌, ◌≤◌, Bool, true, false, cond, ◌⊎◌, List, ◌∷◌, map, length, get_or, set, Some, sym, ap, ◌∙◌, arith, length-set, get_or-set_other, get_or-set_same}
+use Rattle.std.proofs.Common.{◌≡◌, ℕ, suc, ◌<◌, ◌≤◌, Bool, true, false, cond, ◌⊎◌, List, length, get_or, set, Some, sym, ◌∙◌, arith, length-set, get_or-set_other, get_or-set_same}
 use lib.ListN.{length-map}
 use lib.Seq.{map-set}
 use Rattle.std.proofs.lemmas.Bool.{cases_eq, cases_Bool}

@@ -1,5 +1,5 @@
 -- The first marked record of a chain, and the record of a key.
-use Rattle.std.proofs.Common.{◌≡◌, ℕ, zero, suc, ◌<◌, Bool, true, false, cond, List, [], ◌∷◌, length, get_or, set, is_some, Some, None, Option, refl, arith, get_or-set_other, get_or-set_same}
+use Rattle.std.proofs.Common.{◌≡◌, ℕ, zero, suc, ◌<◌, Bool, true, false, cond, List, [], ◌∷◌, length, get_or, set, is_some, Some, None, refl, arith, get_or-set_other, get_or-set_same}
 use lib.ListN.{length-map}
 use lib.Seq.{map-set}
 use Rattle.std.proofs.lemmas.Bool.{cases_Bool}

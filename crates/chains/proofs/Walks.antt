@@ -1,5 +1,5 @@
 -- Walks along chains: one turn on any list of next indices, and the whole chain where it ends.
-use Rattle.std.proofs.Common.{◌≡◌, ℕ, zero, suc, ◌+◌, ◌-◌, ◌<◌, ◌≤◌, Bool, false, cond, List, [], ◌∷◌, length, get_or, refl, ap, ◌∙◌, arith}
+use Rattle.std.proofs.Common.{◌≡◌, ℕ, zero, suc, ◌+◌, ◌-◌, ◌<◌, ◌≤◌, Bool, false, cond, List, [], ◌∷◌, length, get_or, refl, ap, arith}
 use Rattle.chains.specs.Chains.{run, seek, before, Ends}
 
 pub run_zero : (f : ℕ) (ls : List ℕ) → run f ls 0 ≡ []
