@@ -1,6 +1,5 @@
-use Rattle.std.proofs.Common.{◌≡◌, ◌≢◌, ◌<◌, length, get_or, ap, ◌∙◌, arith, rules}
+use Rattle.std.proofs.Common.{◌<◌, length, arith}
 use lib.ListN.{length-map}
-use Rattle.std.proofs.lemmas.Bool.Decides.{nat_tests}
 use Rattle.std.proofs.lemmas.Grind.{common_steps}
 use Rattle.chains.specs.Tables.{table, marks}
 use Rattle.chains.proofs.Walks.{turn}
@@ -10,7 +9,5 @@ pub loop-preserved : goal.loop-preserved
 loop-preserved g c =
     let ls = (table c.args.nodes.now).links in
     let l : c.loop.index < length ls = simp length-map c.loop-test.true in
-    let e : c.in_ok-at.at ≡ get_or ls c.loop.before 0 = grind (arith, common_steps, c.in_ok-at.ensures) in
-    let n : c.in_ok-at.at ≢ 0 = grind (arith, common_steps, c.in_ok-at.ensures) in
-    let u = turn (length ls) c.loop.index ls (marks g.K.Key.alike c.args.k.now (table c.args.nodes.now).keys) c.loop.before c.in_ok-at.at l n in
-    record { at = grind (arith, common_steps); before = grind (arith, common_steps) }
+    let u = turn (length ls) c.loop.index ls (marks g.K.Key.alike c.args.k.now (table c.args.nodes.now).keys) c.loop.before c.in_ok-at.at l in
+    record { at = grind (arith, common_steps, u, c.in_ok-at.ensures); before = grind (arith, common_steps, u, c.in_ok-at.ensures) }
