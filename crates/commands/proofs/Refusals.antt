@@ -1,6 +1,6 @@
 -- A line is refused at its first wrong word, or at its length where a word is missing. Assumes nothing.
 use Rattle.std.proofs.Common.{◌≡◌, ℕ, ◌+◌, ◌<◌, Bool, true, false, cond, eqb, ltb, ◌⊎◌, List, [], ◌∷◌, ◌++◌, length, drop, Some, None, Ok, Err, codes, Option, Result, sym, refl, ap, ◌∙◌, subst, inl, inr, append-nil, arith}
-use Rattle.commands.specs.Forms.{mint, queue, tick, bind_set, bind_purge, fetch, validate, then, rest, known, then_word, then_known, done, held_by, bound_by, form, reads, opens}
+use Rattle.commands.specs.Forms.{bind_set, then, rest, known, then_word, then_known, done, bound_by, form, reads, opens}
 use Rattle.commands.specs.Numbers.{number, count, delay}
 use Rattle.commands.specs.Refusals.{IsCommand, IsOpening, Begins, Wrong, Unfinished, Refused}
 use Rattle.commands.specs.Spelling.{with_spaces, Worded}
