@@ -1,6 +1,6 @@
 -- A line is refused at its first wrong word, or at its length where a word is missing. Assumes nothing.
 use Rattle.std.proofs.Common.{◌≡◌, ℕ, ◌+◌, ◌<◌, Bool, true, false, cond, eqb, ltb, ◌⊎◌, List, [], ◌∷◌, ◌++◌, length, drop, Some, None, Ok, Err, codes, Option, Result, sym, refl, ap, ◌∙◌, subst, inl, inr, append-nil, arith}
-use Rattle.commands.specs.Forms.{mint, queue, tick, bind_set, bind_purge, fetch, validate, then, rest, known, then_word, then_known, done, held_by, bound_by, form, reads, opens}
+use Rattle.commands.specs.Forms.{bind_set, then, rest, known, then_word, then_known, done, bound_by, form, reads, opens}
 use Rattle.commands.specs.Numbers.{number, count, delay}
 use Rattle.commands.specs.Refusals.{IsCommand, IsOpening, Begins, Wrong, Unfinished, Refused}
 use Rattle.commands.specs.Spelling.{with_spaces, Worded}
@@ -84,32 +84,17 @@ module _ {W X : Type 0} (meaning : List ℕ → Option W) (g : W → Reader X) w
       hoped = let l = known_lives t y fair.0 m [] (good y).hope in (t ∷ l.0, (fair.1, l.1), l.2)
 
       astray : (w : Word) (ws : List Word) → (0 < length w.text → (y : W) → meaning w.text ≡ Some y → ⊥) → Astray by_known (w ∷ ws) w.place
-      astray w ws never = record {
-        before = [];
-        word = w;
-        after = ws;
-        words_are = refl;
-        place_is = refl;
-        begun = hoped;
-        none = λ line vs more x e r. let k = known_at w.text more line vs x e r in never k.4 k.0 k.3;
-      }
+      astray w ws never =
+          let none : Fails by_known (w.text ∷ []) = λ line vs more x e r. let k = known_at w.text more line vs x e r in never k.4 k.0 k.3 in
+          record { before = []; word = w; after = ws; words_are = refl; place_is = refl; begun = hoped; none = none }
 
       later : (line : List ℕ) (w : Word) (ws : List Word) (fault : CommandFault) (y : W) → 0 < length w.text → meaning w.text ≡ Some y → Stop (g y) line ws fault → Stop by_known line (w ∷ ws) fault
       later line w ws fault y some m s =
           elim s.2 [
-            | inl a ↦ (
-              s.0,
-              s.1,
-              inl (record {
-                before = w ∷ a.before;
-                word = a.word;
-                after = a.after;
-                words_are = ap (λ v. w ∷ v) a.words_are;
-                place_is = a.place_is;
-                begun = known_lives w.text y some m (texts a.before) a.begun;
-                none = known_fails w.text y m (texts a.before ++ (a.word.text ∷ [])) a.none;
-              }),
-            )
+            | inl a ↦
+                let begun = known_lives w.text y some m (texts a.before) a.begun in
+                let none = known_fails w.text y m (texts a.before ++ (a.word.text ∷ [])) a.none in
+                (s.0, s.1, inl (record { before = w ∷ a.before; word = a.word; after = a.after; words_are = ap (λ v. w ∷ v) a.words_are; place_is = a.place_is; begun = begun; none = none }))
             | inr u ↦ (s.0, s.1, inr (u.0, known_lives w.text y some m (texts ws) u.1))
           ]
 
@@ -166,24 +151,16 @@ good_rest {X} h = record { hope = hoped; stops = stop }
 -- each form, with words that it takes
 bound_good : (kind : Edit) (name word : List ℕ) → Good (λ line ws. bound_by kind line ws name word)
 bound_good edit.Set name word = good_rest (bind_set name word (pick elements word))
-bound_good edit.Purge name word = good_done (bind_purge name word (pick elements word))
+bound_good edit.Purge name word = good_done _
 
 form_good : (h : Head) → Good (form h)
-form_good head.Mint = good_known count (λ n line ws. done ws (mint n)) (codes "1") 1 (omega arith, refl) refl (λ n. good_done (mint n))
-form_good head.Hold =
-    good_known (pick turns) (λ t line ws. then_word line ws (λ name ws. done ws (held_by t name.text))) (codes "set") turn.Set (omega arith, refl) refl
-    (λ t. good_word (λ name line ws. done ws (held_by t name)) (λ name. good_done (held_by t name)))
-form_good head.Queue =
-    good_known delay (λ n line ws. then_word line ws (λ name ws. done ws (queue name.text n))) (codes "now") 0 (omega arith, refl) refl
-    (λ n. good_word (λ name line ws. done ws (queue name n)) (λ name. good_done (queue name n)))
-form_good head.Tick = good_known number (λ n line ws. done ws (tick n)) (codes "0") 0 (omega arith, refl) refl (λ n. good_done (tick n))
-form_good head.Bind =
-    good_known (pick edits) (λ kind line ws. then_word line ws (λ name ws. then_word line ws (λ word ws. bound_by kind line ws name.text word.text))) (codes "set") edit.Set (omega arith, refl) refl
-    (λ kind. good_word (λ name line ws. then_word line ws (λ word ws. bound_by kind line ws name word.text)) (λ name. good_word (λ word line ws. bound_by kind line ws name word) (bound_good kind name)))
-form_good head.Fetch =
-    good_word (λ name line ws. then_word line ws (λ word ws. done ws (fetch name word.text (pick elements word.text))))
-    (λ name. good_word (λ word line ws. done ws (fetch name word (pick elements word))) (λ word. good_done (fetch name word (pick elements word))))
-form_good head.Validate = good_word (λ name line ws. done ws (validate name)) (λ name. good_done (validate name))
+form_good head.Mint = good_known count _ (codes "1") 1 (omega arith, refl) refl (λ n. good_done _)
+form_good head.Hold = good_known (pick turns) _ (codes "set") turn.Set (omega arith, refl) refl (λ t. good_word _ (λ name. good_done _))
+form_good head.Queue = good_known delay _ (codes "now") 0 (omega arith, refl) refl (λ n. good_word _ (λ name. good_done _))
+form_good head.Tick = good_known number _ (codes "0") 0 (omega arith, refl) refl (λ n. good_done _)
+form_good head.Bind = good_known (pick edits) _ (codes "set") edit.Set (omega arith, refl) refl (λ kind. good_word _ (λ name. good_word _ (λ word. bound_good kind name word)))
+form_good head.Fetch = good_word _ (λ name. good_word _ (λ word. good_done _))
+form_good head.Validate = good_word _ (λ name. good_done _)
 
 -- the words of texts, of which the first have no space
 front : (at : ℕ) (t : List ℕ) (ts more : List (List ℕ)) → AllPlain (t ∷ ts)
@@ -231,30 +208,15 @@ module _ {X : Type 0} (f : Reader X) (Is : List ℕ → Type 0) (good : Good f)
   placed : (line : List ℕ) (fault : CommandFault) → f line (words 0 line) ≡ Err fault → (at : ℕ) × (fault ≡ Line at) × (Wrong Is line at ⊎ Unfinished Is line at)
   placed line fault e =
       let s = good.stops line (words 0 line) fault e in
+      let plain = plain_words line in
       elim s.2 [
         | inl a ↦
-            let p = plain_parts a.before a.word a.after (subst (λ (ws : List Word). AllPlain (texts ws)) a.words_are (plain_words line)) in (
-              s.0,
-              s.1,
-              inl (record {
-                before = a.before;
-                word = a.word;
-                after = a.after;
-                words_are = a.words_are;
-                place_is = a.place_is;
-                begun = begins (texts a.before) p.0 a.begun;
-                none = ends (texts a.before ++ (a.word.text ∷ [])) (plain_both (texts a.before) (a.word.text ∷ []) p.0 (p.1, tt)) a.none;
-              }),
-            )
-        | inr u ↦ (
-          s.0,
-          s.1,
-          inr (record {
-            length_is = u.0;
-            begun = begins (texts (words 0 line)) (plain_words line) u.1;
-            none = λ is. let r = complete line is in absurd (let z : Err fault ≡ Ok r.0 = sym e ∙ r.1 in cc);
-          }),
-        )
+            let p = plain_parts a.before a.word a.after (subst (λ (ws : List Word). AllPlain (texts ws)) a.words_are plain) in
+            let none = ends (texts a.before ++ (a.word.text ∷ [])) (plain_both (texts a.before) (a.word.text ∷ []) p.0 (p.1, tt)) a.none in
+            (s.0, s.1, inl (record { before = a.before; word = a.word; after = a.after; words_are = a.words_are; place_is = a.place_is; begun = begins (texts a.before) p.0 a.begun; none = none }))
+        | inr u ↦
+            let none : Is line → ⊥ = λ is. let r = complete line is in absurd (let z : Err fault ≡ Ok r.0 = sym e ∙ r.1 in cc) in
+            (s.0, s.1, inr (record { length_is = u.0; begun = begins (texts (words 0 line)) plain u.1; none = none }))
       ]
 
   refusal : (line : List ℕ) (fault : CommandFault) → cond (ltb 120 (length line)) (Err (Line 120)) (f line (words 0 line)) ≡ Err fault → Refused Is line fault
@@ -266,12 +228,10 @@ module _ {X : Type 0} (f : Reader X) (Is : List ℕ → Type 0) (good : Good f)
 
 pub reads_refused : (line : List ℕ) (fault : CommandFault) → reads line ≡ Err fault → Refused IsCommand line fault
 reads_refused =
-    refusal (λ line ws. then_known (pick heads) line ws (λ h ws. form h line ws)) IsCommand
-    (good_known (pick heads) form (codes "mint") head.Mint (omega arith, refl) refl form_good)
+    refusal _ IsCommand (good_known (pick heads) form (codes "mint") head.Mint (omega arith, refl) refl form_good)
     (λ line x e. let r = spoken_read line x e in (x, r.0, r.1)) (λ line is. (is.0, spelt_spoken line is.0 is.2 is.1)) (λ x e. cc)
 
 pub opens_refused : (line : List ℕ) (fault : CommandFault) → opens line ≡ Err fault → Refused IsOpening line fault
 opens_refused =
-    refusal (λ line ws. then_known (pick openings) line ws (λ _ ws. then_word line ws (λ t ws. done ws t.text))) IsOpening
-    (good_known (pick openings) (λ _ line ws. then_word line ws (λ t ws. done ws t.text)) (codes "template") first.Template (omega arith, refl) refl (λ _. good_word (λ t line ws. done ws t) (λ t. good_done t)))
+    refusal _ IsOpening (good_known (pick openings) _ (codes "template") first.Template (omega arith, refl) refl (λ _. good_word (λ t line ws. done ws t) (λ t. good_done t)))
     (λ line x e. let r = opening_read line x e in (x, r.0, r.1)) (λ line is. (is.0, spelt_opening line is.0 is.2 is.1)) (λ x e. cc)

@@ -31,12 +31,11 @@ along_on front (b ∷ bs) =
     let at = length front in
     let line = front ++ (b ∷ bs) in
     let u = upto 32 bs in
-    let more = after (at + 1) bs (length u) in
+    let more = after (at + 1) bs in
     let longer = front ++ (b ∷ []) in
     let far : length longer ≡ at + 1 = length-append front (b ∷ []) in
     let same : longer ++ bs ≡ line = append_assoc front (b ∷ []) bs in
-    let ih : Along line (record { place = at + 1; text = u } ∷ more) =
-    subst (Along line) (words_first (at + 1) bs) (subst (λ (l : List ℕ). Along l (words (at + 1) bs)) same (subst (λ (n : ℕ). Along (longer ++ bs) (words n bs)) far (along_on longer bs))) in
+    let ih = rw (far, same, words_first (at + 1) bs) at (along_on longer bs) in
     let here : drop at line ≡ b ∷ bs = drop_at front (b ∷ bs) at refl in
     let on : bs ≡ with_spaces (u ∷ texts more) = sym (ap (drop (at + 1)) (sym same) ∙ drop_at longer bs (at + 1) far) ∙ ih.0 in
     rw (words_first (at + 1) bs)

@@ -1,4 +1,4 @@
-use Rattle.std.proofs.Common.{◌≡◌, ℕ, List, length, drop, Some, None, Ok, Option, Bor, sym, refl, ap, ◌∙◌, inl, inr, arith}
+use Rattle.std.proofs.Common.{◌≡◌, ℕ, List, length, drop, Some, None, Ok, Option, Bor, sym, ap, ◌∙◌, inl, inr, arith}
 use Rattle.commands.specs.Ahead.{on, left}
 use Rattle.commands.specs.Forms.{rest}
 use Rattle.commands.specs.declared.fault.CommandFault.TheVariants.{Line}
@@ -15,7 +15,7 @@ left_over line from None p =
       | inr past ↦ absurd (omega arith)
     ]
 left_over line from (Some x) p =
-    ap Ok (p.0.2 ∙ take_all _ (drop from line) (omega (arith, length-drop from line))) ∙ sym (ap (rest line) (on_word line from _ p.0.0 refl))
+    ap Ok (p.0.2 ∙ take_all _ (drop from line) (omega (arith, length-drop from line))) ∙ sym (ap (rest line) (on_word line from p.0.0))
 
 pub returns : goal.returns
 returns c = rw c.ok_or.ensures.value (left_over c.args.self.line.now c.args.self.from c.get.result c.get.ensures.lookup)
