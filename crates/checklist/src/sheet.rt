@@ -19,7 +19,7 @@ pub struct Counts {
 pub fn check_name(template: &Template, line: &[u8]) -> Result<u64, Refusal>
     ensures { result ≡ verdict_of (form template.now) line.now }
 {
-    Ok(template.validate(line)?)
+    template.validate(line).map_err(Refusal::from)
 }
 
 // The counts over the lines of a text.

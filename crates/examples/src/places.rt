@@ -102,7 +102,7 @@ fn try_filling(
     }
     let reports = answer(tally.heap(), input.as_str())?;
     let came = text_of(reports.as_slice());
-    tally.number(
+    tally.compare(
         filling.what,
         count_lines(came, filling.taken),
         filling.places,

@@ -43,18 +43,18 @@ fn try_spoilt(tally: &mut Tally<'_>, template: &Template, name: &str) -> anyhow:
     let mut changes = Spoils::of(template);
     changes.change_all(text.as_mut_slice());
     let what = "  one byte changed, refused of all";
-    tally.number(what, changes.refused, changes.tried)?;
+    tally.compare(what, changes.refused, changes.tried)?;
     let mut exchanges = Spoils::of(template);
     exchanges.exchange_all(text.as_mut_slice());
     let what = "  two bytes exchanged, refused of all";
-    tally.number(what, exchanges.refused, exchanges.tried)
+    tally.compare(what, exchanges.refused, exchanges.tried)
 }
 
 fn try_name(tally: &mut Tally<'_>, published: &Published) -> anyhow::Result<()> {
     let template = template_of(published.template)?;
     let name = published.name;
     match template.validate(name.as_bytes()) {
-        Ok(came) => tally.number(name, came, published.number)?,
+        Ok(came) => tally.compare(name, came, published.number)?,
         Err(_) => tally.text(name, "refused", "valid")?,
     }
     try_spoilt(tally, &template, name)

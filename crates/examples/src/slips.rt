@@ -43,14 +43,14 @@ fn try_longest(tally: &mut Tally<'_>) -> anyhow::Result<()> {
     let template = template_of(LONGEST)?;
     let name = template.name(1_000_000);
     let what = "the longest template's names, bytes";
-    tally.number(what, name.as_slice().len(), 28)?;
+    tally.compare(what, name.as_slice().len(), 28)?;
     let mut spoils = Spoils::of(&template);
     for n in 0..1000 {
         let mut text = template.name(n).as_slice().to_vec(tally.heap())?;
         spoils.exchange(text.as_mut_slice(), 26, 27);
     }
     let what = "28 bytes, the last two exchanged, refused of all";
-    tally.number(what, spoils.refused, spoils.tried)?;
+    tally.compare(what, spoils.refused, spoils.tried)?;
     try_29_bytes(tally, name.as_slice())
 }
 

@@ -44,7 +44,7 @@ impl<'a> Tally<'a> {
         }
     }
 
-    pub(crate) fn number<T: PartialEq + Display + Drop>(
+    pub(crate) fn compare<T: PartialEq + Display + Drop>(
         &mut self,
         what: &str,
         came: T,
@@ -56,7 +56,7 @@ impl<'a> Tally<'a> {
     }
 
     pub(crate) fn text(&mut self, what: &str, came: &str, should: &str) -> anyhow::Result<()> {
-        self.number(what, Quoted(came), Quoted(should))
+        self.compare(what, Quoted(came), Quoted(should))
     }
 
     // A refusal by its number and its place; none came where the call was accepted.

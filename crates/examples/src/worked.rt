@@ -39,7 +39,7 @@ pub(crate) fn try_session(
         tally.text(what, line, should)?;
     }
     let bytes = format!(in tally.heap(); "{what}, bytes")?;
-    tally.number(bytes.as_str(), came.len(), should.len())
+    tally.compare(bytes.as_str(), came.len(), should.len())
 }
 
 pub(crate) fn try_worked(tally: &mut Tally<'_>) -> anyhow::Result<()> {

@@ -2,7 +2,7 @@
 use commands::reading::read_command;
 use names::fault::Refusal;
 
-// The place where a line is refused, or 1,000 for one that is read.
+// The place where a line is refused, or 1,000 for one that is read. (The values of the tests stay: they compare with that number.)
 fn place(line: &[u8]) -> usize {
     read_command(line)
         .err()
