@@ -13,9 +13,7 @@ impl Lists {
     pub(crate) fn has(&self, n: u64) -> bool
         ensures { result ≡ (has n self.now.aside.items || (has n self.now.returned.items || has n (numbers self.now.delayed.items))) }
     {
-        self.aside.contains(&n)
-            || self.returned.contains(&n)
-            || queued(&self.delayed, n)
+        self.aside.contains(&n) || self.returned.contains(&n) || queued(&self.delayed, n)
     }
 
     // Moves what is due by a second to the end of returned, the soonest first.

@@ -7,13 +7,6 @@ use Rattle.minter.specs.Passes.{passed}
 use Rattle.minter.proofs.Mints.{pass_more, head_removed}
 use Rattle.minter.proofs.lists.Lists.pass_returned.Goals as goal
 
-pub remove-next-requires : goal.remove-next-requires
-remove-next-requires c =
-    let l = c.loop.self.returned.ok.0 in
-    let k = c.args.self.now.returned.ok.0 in
-    let d = length-drop c.loop.counter (vec_items c.args.self.now.returned) in
-    omega (arith, ap {B = ℕ} length c.loop.invariant.1, c.requires)
-
 pub loop-preserved : goal.loop-preserved
 loop-preserved c =
     let l = c.loop.self.returned.ok.0 in

@@ -1,5 +1,5 @@
 -- A held number that comes aside takes no new place. Assumes nothing.
-use Rattle.std.proofs.Common.{◌≡◌, ℕ, ◌+◌, ◌≤◌, true, false, List, length, vec_items, sym, ap, ◌∙◌, subst, arith}
+use Rattle.std.proofs.Common.{◌≡◌, ℕ, ◌+◌, ◌≤◌, true, false, List, length, vec_items, sym, subst, arith}
 use Rattle.sources.proofs.Looks.{has_any}
 use Rattle.sources.specs.Lists.{has}
 use Rattle.machine.specs.Machine.{outside}

@@ -14,17 +14,6 @@ returns-in_err-at-clause-answer c =
     let none : c.from_residual.result ≡ None = search rules in
     none ∙ sym (ap first (splits_None (λ x. has x (vec_items s.held)) (vec_items s.returned) (sym (c.in_err-at.ensures ∙ ap₂ (λ (hs xs : List ℕ). position (λ x. not (has x hs)) xs) c.deref-2.ensures.value c.deref.ensures.value))))
 
-pub remove-requires : goal.remove-requires
-remove-requires c =
-    let s = c.args.self.now in
-    let p : ℕ → Bool = λ x. has x (vec_items s.held) in
-    let at = splits_Some p (vec_items s.returned) c.in_ok-at.at (sym (c.in_ok-at.ensures ∙ ap₂ (λ (hs xs : List ℕ). position (λ x. not (has x hs)) xs) c.deref-2.ensures.value c.deref.ensures.value)) in
-    let left = c.pass_returned.ensures.returned in
-    let d = length-drop c.in_ok-at.at (vec_items s.returned) in
-    let l = s.returned.ok.0 in
-    let k = c.pass_returned.new.self.returned.ok.0 in
-    omega (arith, ap {B = ℕ} length left, at.0)
-
 pub returns-clause-answer : goal.returns-clause-answer
 returns-clause-answer c =
     let s = c.args.self.now in

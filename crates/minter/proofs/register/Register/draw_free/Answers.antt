@@ -1,9 +1,7 @@
 -- One draw more of a number that is held. Assumes nothing.
-use Rattle.std.proofs.Common.{rules, arith}
-use Rattle.std.proofs.lemmas.Grind.{common_steps}
+use Rattle.std.proofs.Common.{rules}
 use Rattle.machine.specs.Machine.{with_lists}
 use Rattle.minter.specs.Meaning.{meaning}
-use Rattle.minter.proofs.Dues.{first_some}
 use Rattle.minter.proofs.register.Register.draw_free.Goals as goal
 
 pub loop-n-preserved : goal.loop-n-preserved
