@@ -3,14 +3,12 @@ ghost use Rattle.std.specs.Prelude.{◌≡◌, not, is_some, ◌==◌};
 ghost use Rattle.std.specs.Option.{unwrap_or};
 ghost use Rattle.chains.specs.Tables.{table, spot, found, put_table, put_answer, drop_table};
 
+use crate::FREE;
 use crate::cells::{after, link, set_key, set_value, unlink, value_to};
 use crate::node::Node;
 use crate::walk::walk;
 use stores::fault::StoreFault;
 use stores::store::Key;
-
-// The head of the free chain.
-const FREE: usize = 16;
 
 #[tactic(auto, using(crate::proofs::Columns::held_is))]
 pub fn get_in<K: Key, V: Copy>(nodes: &[Node<K, V>], k: &K, place: &mut V) -> bool

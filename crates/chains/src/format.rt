@@ -3,6 +3,7 @@ ghost use Rattle.std.specs.Prelude.{◌≡◌, ◌<◌, ◌≤◌, [], length, i
 ghost use Rattle.chains.specs.Chains.{laid};
 ghost use Rattle.chains.specs.Tables.{table, fits_table, fresh_table, Sound, pairs};
 
+use crate::FREE;
 use crate::node::Node;
 use stores::fault::StoreFault;
 use stores::store::Key;
@@ -12,7 +13,7 @@ fn laid_next(n: usize, i: usize) -> u16
     requires { (i < n) × (n ≤ 65536) }
     ensures { result ≡ laid n i }
 {
-    if 16 <= i && i + 1 < n {
+    if i >= FREE && i + 1 < n {
         (i + 1) as u16
     } else {
         0

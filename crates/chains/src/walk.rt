@@ -17,6 +17,7 @@ pub(crate) fn walk<K: Key, V>(nodes: &[Node<K, V>], k: &K) -> Option<Spot>
     ensures { result ≡ (if spot K.Key.alike K.Key.bucket (table nodes.now) k.now == 0 then None else Some (record { before = spot_before K.Key.alike K.Key.bucket (table nodes.now) k.now; at = spot K.Key.alike K.Key.bucket (table nodes.now) k.now })) }
 {
     let mut before = k.hash();
+    // No chain has more records than there are, so this ends on any list.
     for _ in nodes {
         let at = after(nodes, before)?;
         if has_key(nodes, at as usize, k) {
