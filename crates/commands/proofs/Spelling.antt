@@ -80,16 +80,35 @@ known_ok {W} {X} meaning line w ws f y e = go (eqb (length w.text) 0) refl e
         at (Some x) m h = (x, m, omega (arith, eqb-false (length w.text) 0 z), h)
 
 module _ {X : Type 0} (line : List ℕ) (first : List (List ℕ)) (y : X) where
-  meant_at : {W : Type 0} (meaning : List ℕ → Option W) (ws : List Word) (f : W → List Word → Result X CommandFault) → At line first ws → then_known meaning line ws f ≡ Ok y
-      → (w : Word) × (more : List Word) × (x : W) × At line (first ++ (w.text ∷ [])) more × (meaning w.text ≡ Some x) × Worded w.text × (f x more ≡ Ok y)
+  -- the next word, which means something, and the words after it
+  record Known {W : Type 0} (meaning : List ℕ → Option W) (f : W → List Word → Result X CommandFault) : Type 0 where
+    word : Word
+    more : List Word
+    means : W
+    meant : meaning word.text ≡ Some means
+    fair : Worded word.text
+    at : At line (first ++ (word.text ∷ [])) more
+    goes_on : f means more ≡ Ok y
+
+  meant_at : {W : Type 0} (meaning : List ℕ → Option W) (ws : List Word) (f : W → List Word → Result X CommandFault) → At line first ws → then_known meaning line ws f ≡ Ok y → Known meaning f
   meant_at meaning [] f a e = absurd (cc)
   meant_at meaning (w ∷ ws) f a e =
       let k = known_ok meaning line w ws f y e in
-      (w, ws, k.0, record { spelt = a.spelt ∙ ap with_spaces (sym (append_assoc first (w.text ∷ []) (texts ws))); along = a.along.2 }, k.1, (k.2, a.along.1), k.3)
+      let spelt = a.spelt ∙ ap with_spaces (sym (append_assoc first (w.text ∷ []) (texts ws))) in
+      record { word = w; more = ws; means = k.0; meant = k.1; fair = (k.2, a.along.1); at = record { spelt = spelt; along = a.along.2 }; goes_on = k.3 }
 
-  word_at : (ws : List Word) (f : List ℕ → List Word → Result X CommandFault) → At line first ws → then_word line ws (λ w ws. f w.text ws) ≡ Ok y
-      → (w : Word) × (more : List Word) × At line (first ++ (w.text ∷ [])) more × Worded w.text × (f w.text more ≡ Ok y)
-  word_at ws f a e = let k = meant_at Some ws f a e in let same : k.2 ≡ k.0.text = cc in (k.0, k.1, k.3, k.5, ap (λ t. f t k.1) (sym same) ∙ k.6)
+  -- the next word, which means itself
+  record Next (f : List ℕ → List Word → Result X CommandFault) : Type 0 where
+    word : Word
+    more : List Word
+    fair : Worded word.text
+    at : At line (first ++ (word.text ∷ [])) more
+    goes_on : f word.text more ≡ Ok y
+
+  word_at : (ws : List Word) (f : List ℕ → List Word → Result X CommandFault) → At line first ws → then_word line ws (λ w ws. f w.text ws) ≡ Ok y → Next f
+  word_at ws f a e =
+      let k = meant_at Some ws f a e in
+      record { word = k.word; more = k.more; fair = k.fair; at = k.at; goes_on = ap (λ t. f t k.more) (let same : k.word.text ≡ k.means = cc in same) ∙ k.goes_on }
 
   done_at : (ws : List Word) (x : X) → At line first ws → done ws x ≡ Ok y → (line ≡ with_spaces first) × (x ≡ y)
   done_at [] x a e = (a.spelt ∙ ap with_spaces (append-nil first), cc)
@@ -141,59 +160,59 @@ bound_read edit.Purge line name word ws c w v a e = let d = done_at line _ c ws 
 form_read : (h : Head) (line : List ℕ) (ws : List Word) (c : Said) → At line (head_name h ∷ []) ws → form h line ws ≡ Ok c → Read line c
 form_read head.Mint line ws c a e =
     let k = meant_at line _ c count ws _ a e in
-    let d = done_at line _ c k.1 _ k.3 k.6 in
-    let r = range_ok k.0.text k.2 k.4 in
-    let n = number_ok k.0.text k.2 r.0 in
+    let d = done_at line _ c k.more _ k.at k.goes_on in
+    let r = range_ok k.word.text k.means k.meant in
+    let n = number_ok k.word.text k.means r.0 in
     subst (Read line) d.1 (d.0 ∙ ap (λ t. with_spaces (codes "mint" ∷ t ∷ [])) n.0, (r.1, r.2))
 form_read head.Hold line ws c a e =
     let k = meant_at line _ c (pick turns) ws _ a e in
-    let p = word_at line _ c k.1 _ k.3 k.6 in
-    let d = done_at line _ c p.1 _ p.2 p.4 in
-    let t = picked turn_name turns k.0.text k.2 refl k.4 in
-    subst (Read line) d.1 (held_read k.2 line p.0.text (d.0 ∙ ap (λ t. with_spaces (codes "hold" ∷ t ∷ p.0.text ∷ [])) t) p.3)
+    let p = word_at line _ c k.more _ k.at k.goes_on in
+    let d = done_at line _ c p.more _ p.at p.goes_on in
+    let t = picked turn_name turns k.word.text k.means refl k.meant in
+    subst (Read line) d.1 (held_read k.means line p.word.text (d.0 ∙ ap (λ t. with_spaces (codes "hold" ∷ t ∷ p.word.text ∷ [])) t) p.fair)
 form_read head.Queue line ws c a e =
     let k = meant_at line _ c delay ws _ a e in
-    let p = word_at line _ c k.1 _ k.3 k.6 in
-    let d = done_at line _ c p.1 _ p.2 p.4 in
-    let n = delay_ok k.0.text k.2 k.4 in
-    let spell : List ℕ → List ℕ = λ t. with_spaces (codes "queue" ∷ t ∷ p.0.text ∷ []) in
-    subst (Read line) d.1 (elim n.0 [ inl t ↦ inl (d.0 ∙ ap spell t) | inr z ↦ inr (z.0, d.0 ∙ ap spell z.1) ], (p.3, n.1))
+    let p = word_at line _ c k.more _ k.at k.goes_on in
+    let d = done_at line _ c p.more _ p.at p.goes_on in
+    let n = delay_ok k.word.text k.means k.meant in
+    let spell : List ℕ → List ℕ = λ t. with_spaces (codes "queue" ∷ t ∷ p.word.text ∷ []) in
+    subst (Read line) d.1 (elim n.0 [ inl t ↦ inl (d.0 ∙ ap spell t) | inr z ↦ inr (z.0, d.0 ∙ ap spell z.1) ], (p.fair, n.1))
 form_read head.Tick line ws c a e =
     let k = meant_at line _ c number ws _ a e in
-    let d = done_at line _ c k.1 _ k.3 k.6 in
-    let n = number_ok k.0.text k.2 k.4 in
+    let d = done_at line _ c k.more _ k.at k.goes_on in
+    let n = number_ok k.word.text k.means k.meant in
     subst (Read line) d.1 (d.0 ∙ ap (λ t. with_spaces (codes "tick" ∷ t ∷ [])) n.0, n.1)
 form_read head.Bind line ws c a e =
     let k = meant_at line _ c (pick edits) ws _ a e in
-    let p = word_at line _ c k.1 _ k.3 k.6 in
-    let q = word_at line _ c p.1 _ p.2 p.4 in
-    let t = picked edit_name edits k.0.text k.2 refl k.4 in
-    bound_read k.2 line p.0.text q.0.text q.1 c p.3 q.3 (subst (λ (t : List ℕ). At line (codes "bind" ∷ t ∷ p.0.text ∷ q.0.text ∷ []) q.1) t q.2) q.4
+    let p = word_at line _ c k.more _ k.at k.goes_on in
+    let q = word_at line _ c p.more _ p.at p.goes_on in
+    let t = picked edit_name edits k.word.text k.means refl k.meant in
+    bound_read k.means line p.word.text q.word.text q.more c p.fair q.fair (subst (λ (t : List ℕ). At line (codes "bind" ∷ t ∷ p.word.text ∷ q.word.text ∷ []) q.more) t q.at) q.goes_on
 form_read head.Fetch line ws c a e =
     let p = word_at line _ c ws _ a e in
-    let q = word_at line _ c p.1 _ p.2 p.4 in
-    let d = done_at line _ c q.1 _ q.2 q.4 in
-    subst (Read line) d.1 ((d.0, refl), (p.3, q.3))
+    let q = word_at line _ c p.more _ p.at p.goes_on in
+    let d = done_at line _ c q.more _ q.at q.goes_on in
+    subst (Read line) d.1 ((d.0, refl), (p.fair, q.fair))
 form_read head.Validate line ws c a e =
     let p = word_at line _ c ws _ a e in
-    let d = done_at line _ c p.1 _ p.2 p.4 in
-    subst (Read line) d.1 (d.0, p.3)
+    let d = done_at line _ c p.more _ p.at p.goes_on in
+    subst (Read line) d.1 (d.0, p.fair)
 
 -- by a line's first word
 pub spoken_read : (line : List ℕ) (c : Said) → spoken line ≡ Ok c → Spelt line c × Fair c
 spoken_read line c e =
     let k = meant_at line [] c (pick heads) (words 0 line) _ (start line) e in
-    let named = picked head_name heads k.0.text k.2 refl k.4 in
-    form_read k.2 line k.1 c (subst (λ (t : List ℕ). At line (t ∷ []) k.1) named k.3) k.6
+    let named = picked head_name heads k.word.text k.means refl k.meant in
+    form_read k.means line k.more c (subst (λ (t : List ℕ). At line (t ∷ []) k.more) named k.at) k.goes_on
 
 -- the opening line
 pub opening_read : (line template : List ℕ) → opening line ≡ Ok template → (line ≡ with_spaces (codes "template" ∷ template ∷ [])) × Worded template
 opening_read line template e =
     let k = meant_at line [] template (pick openings) (words 0 line) _ (start line) e in
-    let p = word_at line _ template k.1 _ k.3 k.6 in
-    let d = done_at line _ template p.1 _ p.2 p.4 in
-    let t = picked (λ _. codes "template") openings k.0.text k.2 refl k.4 in
-    (d.0 ∙ (λ i. with_spaces (t i ∷ d.1 i ∷ [])), subst Worded d.1 p.3)
+    let p = word_at line _ template k.more _ k.at k.goes_on in
+    let d = done_at line _ template p.more _ p.at p.goes_on in
+    let t = picked (λ _. codes "template") openings k.word.text k.means refl k.meant in
+    (d.0 ∙ (λ i. with_spaces (t i ∷ d.1 i ∷ [])), subst Worded d.1 p.fair)
 
 -- what is read has at most 120 bytes
 short_ok : {X : Type 0} (line : List ℕ) (r : Result X CommandFault) (x : X) → short line r ≡ Ok x → (length line ≤ 120) × (r ≡ Ok x)

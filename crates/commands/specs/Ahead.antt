@@ -3,6 +3,7 @@
 -- begun, taken, left: what the reader's answers say of all words of a line, of the next word, and of the rest of the line
 use Rattle.std.specs.Prelude.{ℕ, cond, List, [], length, drop, Ok, Err, Result, nat_le}
 use Rattle.std.specs.Borrow.{Bor}
+use Rattle.commands.specs.Forms.{template_read}
 use Rattle.commands.specs.Words.{Word, words}
 use Rattle.commands.specs.declared.fault.CommandFault.{CommandFault}
 use Rattle.commands.specs.declared.words.Word as code
@@ -23,5 +24,4 @@ taken (Ok word) after = Ok (record { place = word.at; text = word.text.now }, ah
 taken (Err fault) after = Err fault
 
 abbrev pub left : Result (Bor (List ℕ)) CommandFault → Result (List ℕ) CommandFault
-left (Ok text) = Ok text.now
-left (Err fault) = Err fault
+left = template_read
