@@ -6,10 +6,9 @@ ghost use Rattle.sessions.specs.Ends.{tally_line, tally_lines, closing, Closes};
 ghost use Rattle.sessions.specs.Tallies.{tallies_in, under};
 
 use crate::line::FREE;
-use crate::plain::{tally_report, total_report};
 use crate::session::{EndedSession, OpenSession};
 use commands::fault::CommandFault;
-use reports::write_report;
+use reports::{Report, write_report};
 use stores::store::Store;
 use stores::tally::TallyKey;
 
@@ -33,7 +32,7 @@ fn write_count(number: u8, count: u64, out: &mut [u8], fill: usize) -> usize
     ensures text { Wrote out.old fill (line (tally number count)) out.new result }
     ensures brief { length (line (tally number count)) ≤ 48 }
 {
-    write_report(out, fill, tally_report(number, count))
+    write_report(out, fill, Report::Tally(number, count))
 }
 
 // The report line of a refusal number, if it was met.
@@ -77,7 +76,7 @@ fn write_total(minted: u64, out: &mut [u8], fill: usize) -> usize
     ensures text { Wrote out.old fill (line (total minted)) out.new result }
     ensures brief { length (line (total minted)) ≤ 28 }
 {
-    write_report(out, fill, total_report(minted))
+    write_report(out, fill, Report::Total(minted))
 }
 
 impl OpenSession {

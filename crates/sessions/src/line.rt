@@ -11,15 +11,13 @@ ghost use Rattle.sessions.specs.Performing.{performed};
 ghost use Rattle.sessions.specs.Tallies.{tallies_in, tallied};
 
 use crate::perform::perform;
-use crate::plain::refused_report;
 use crate::session::OpenSession;
 use commands::command::Command;
 use commands::fault::CommandFault;
 use commands::reading::read_command;
 use machine::text::Text;
 use minter::register::Register;
-use names::fault::{Layer, Refusal};
-use reports::write_report;
+use reports::{Report, write_report};
 use sources::source::Source;
 use stores::store::Store;
 use stores::tally::{TallyKey, raise};
@@ -46,37 +44,12 @@ pub(crate) fn tally<U: Store<TallyKey, u64>>(tallies: &mut U, fault: CommandFaul
     let _ = raise(tallies, TallyKey { number });
 }
 
-// The report line of a refusal.
-fn write_refusal(
-    lines: u64,
-    number: u8,
-    layer: Layer,
-    place: usize,
-    out: &mut [u8],
-    fill: usize,
-) -> usize
-    ensures text { Wrote out.old fill (bytes_of_line (refused lines number place)) out.new result }
-    ensures brief { length (bytes_of_line (refused lines number place)) ≤ 71 }
-{
-    let refusal = Refusal {
-        number,
-        layer,
-        place,
-    };
-    write_report(out, fill, refused_report(lines, refusal))
-}
-
 // The report line of a fault, under the number of its line, from the fill on. The answer is the fill after it.
 pub fn write_fault(lines: u64, fault: CommandFault, out: &mut [u8], fill: usize) -> usize
     ensures text { Wrote out.old fill (bytes_of_line (refused lines (command_refusal fault).number (command_refusal fault).place)) out.new result }
     ensures brief { length (bytes_of_line (refused lines (command_refusal fault).number (command_refusal fault).place)) ≤ 71 }
 {
-    let Refusal {
-        number,
-        layer,
-        place,
-    } = fault.refusal();
-    write_refusal(lines, number, layer, place, out, fill)
+    write_report(out, fill, Report::Refused(lines, fault.refusal()))
 }
 
 // Refuses a line: its report line from the fill on, and its tally. The answer is the fill after it.

@@ -8,7 +8,6 @@ ghost use Rattle.machine.specs.Texts.{bytes_of};
 ghost use Rattle.texts.specs.Output.{Wrote};
 ghost use Rattle.sessions.specs.Performing.{told_of, minted_by, fault_of, mints, by_calls, performed, Did};
 
-use crate::plain::clock_report;
 use commands::command::Command;
 use machine::call::{Answer, Call};
 use machine::fault::RegisterFault;
@@ -51,7 +50,7 @@ fn tell<S: Source, T: Store<TextKey, Text>>(
             write_report(out, fill, Report::Released(register.name(n).as_slice()))
         }
         Answer::Queued(n) => write_report(out, fill, Report::Queued(register.name(n).as_slice())),
-        Answer::Ticked(second) => write_report(out, fill, clock_report(second)),
+        Answer::Ticked(second) => write_report(out, fill, Report::Clock(second)),
         Answer::Bound(n) => {
             write_report(out, fill, Report::Bound(register.name(n).as_slice(), word))
         }
@@ -87,12 +86,6 @@ fn ask<S: Source, T: Store<TextKey, Text>>(
     tell(register, answer, word, out, fill)
 }
 
-fn mint_call<'a>() -> Call<'a>
-    ensures { asked result ≡ Mint }
-{
-    Call::Mint
-}
-
 // Mints so many names, and none after a refused mint.
 fn mint_names<S: Source, T: Store<TextKey, Text>>(
     register: &mut Register<S, T>,
@@ -107,7 +100,7 @@ fn mint_names<S: Source, T: Store<TextKey, Text>>(
 {
     let mut at = fill;
     for i in 0..count {
-        let one = ask(register, mint_call(), b"", out, at);
+        let one = ask(register, Call::Mint, b"", out, at);
         at = one.fill;
         if one.fault.is_some() {
             return Done {
@@ -187,12 +180,6 @@ fn validate_name<S: Source, T: Store<TextKey, Text>>(
     }
 }
 
-fn tick_call<'a>(second: u64) -> Call<'a>
-    ensures { asked result ≡ Tick second }
-{
-    Call::Tick(second)
-}
-
 // Performs a command: what it asks is put to the register, and reported from the fill on.
 pub fn perform<S: Source, T: Store<TextKey, Text>>(
     register: &mut Register<S, T>,
@@ -210,7 +197,7 @@ pub fn perform<S: Source, T: Store<TextKey, Text>>(
         Command::HoldSet(name) => ask(register, Call::Hold(name), b"", out, fill),
         Command::HoldRelease(name) => ask(register, Call::Release(name), b"", out, fill),
         Command::Queue(name, delay) => ask(register, Call::Queue(name, delay), b"", out, fill),
-        Command::Tick(second) => ask(register, tick_call(second), b"", out, fill),
+        Command::Tick(second) => ask(register, Call::Tick(second), b"", out, fill),
         Command::BindSet(name, word, element, text) => ask(
             register,
             Call::Bind(name, element, text),

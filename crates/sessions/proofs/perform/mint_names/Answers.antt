@@ -19,7 +19,7 @@ returns-then-is_some g c =
     record {
       did = λ s k. let going = inv.0 s k in
           ends_refused (g.T.Store.sound c.loop-i.register.texts) (g.T.Store.sound c.ask-one.new.register.texts) (m c.args.register.now) (m c.loop-i.register) (m c.ask-one.new.register) c.args.count c.loop-i.i c.args.out.now c.args.fill c.loop-i.out c.loop-i.at c.ask-one.new.out c.ask-one.result c.loop-i-test.true going
-          (subst (λ (a : Asked). Did (by_calls (m c.loop-i.register) [] (a ∷ [])) (m c.ask-one.new.register) c.loop-i.out c.loop-i.at c.ask-one.new.out c.ask-one.result) c.mint_call.ensures (one.did going.sound going.store))
+          (one.did going.sound going.store)
           _ (sym c.is_some.ensures ∙ bad) refl refl refl;
       refusal = λ s k e z. let going = inv.0 s k in one.refusal going.sound going.store e ∙ inv.1 z;
       store = λ k. one.store (inv.2 k);
@@ -33,7 +33,7 @@ loop-i-preserved g c =
     let one = c.ask-one.ensures in (
       λ s k. let going = inv.0 s k in
           goes_on (g.T.Store.sound c.loop-i.register.texts) (g.T.Store.sound c.ask-one.new.register.texts) (m c.args.register.now) (m c.loop-i.register) (m c.ask-one.new.register) c.args.count c.loop-i.i c.args.out.now c.args.fill c.loop-i.out c.loop-i.at c.ask-one.new.out c.ask-one.result c.loop-i-test.true going
-          (subst (λ (a : Asked). Did (by_calls (m c.loop-i.register) [] (a ∷ [])) (m c.ask-one.new.register) c.loop-i.out c.loop-i.at c.ask-one.new.out c.ask-one.result) c.mint_call.ensures (one.did going.sound going.store))
+          (one.did going.sound going.store)
           (sym c.is_some.ensures ∙ c.if-is_some.false) (one.sound going.sound going.store) (one.store going.store),
       λ z. absurd (omega (arith, z)),
       λ k. one.store (inv.2 k),
