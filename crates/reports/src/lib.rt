@@ -1,12 +1,13 @@
 // Reports: the lines of output that answer a session's lines and its end.
 #![tactic(auto)]
 
-ghost use Rattle.std.specs.Prelude.{◌≡◌, [], ◌∷◌, decimal};
-ghost use Rattle.texts.specs.Output.{Wrote};
+ghost use Rattle.std.specs.Prelude.{◌∷◌, map};
+ghost use Rattle.texts.specs.Output.{Puts};
+ghost use Rattle.reports.specs.Fields.{field_text};
 ghost use Rattle.reports.specs.Reports.{spaced, line, told};
 
 use names::fault::Refusal;
-use texts::output::{put, put_number};
+use texts::output::Output;
 
 // What a line of output tells.
 #[derive(Clone, Copy)]
@@ -35,131 +36,60 @@ pub enum Report<'a> {
     Total(u64),
 }
 
-// A space and a word.
-fn put_word(out: &mut [u8], fill: usize, word: &[u8]) -> usize
-    ensures { Wrote out.old fill (32 ∷ word.now) out.new result }
-{
-    let fill = put(out, fill, b" ");
-    put(out, fill, word)
+// What follows a line's head: a word, or a count in decimal.
+#[derive(Clone, Copy)]
+enum Field<'a> {
+    Word(&'a [u8]),
+    Count(u64),
 }
 
-// A space and a number.
-fn put_count(out: &mut [u8], fill: usize, n: u64) -> usize
-    ensures { Wrote out.old fill (32 ∷ decimal n) out.new result }
+fn put_field(out: &mut Output<'_>, field: Field<'_>)
+    ensures { Puts out.old (field_text field.entry) out.new }
 {
-    let fill = put(out, fill, b" ");
-    put_number(out, fill, n)
+    match field {
+        Field::Word(word) => out.put(word),
+        Field::Count(n) => out.put_number(n),
+    }
 }
 
-fn end_line(out: &mut [u8], fill: usize) -> usize
-    ensures { Wrote out.old fill (10 ∷ []) out.new result }
+// A line of a head and of fields after it.
+fn put_line(out: &mut Output<'_>, head: &[u8], fields: &[Field<'_>])
+    ensures { Puts out.old (spaced (head.now ∷ map field_text fields.now)) out.new }
 {
-    put(out, fill, b"\n")
+    out.put(head);
+    for field in fields {
+        out.put(b" ");
+        put_field(out, *field);
+    }
+    out.put(b"\n");
 }
 
-// Lines of a head and of words or numbers after it.
-fn one_word(out: &mut [u8], fill: usize, head: &[u8], word: &[u8]) -> usize
-    ensures { Wrote out.old fill (spaced (head.now ∷ word.now ∷ [])) out.new result }
+// The report's line from the fill on, as far as there is room.
+pub fn write_report(out: &mut Output<'_>, report: Report<'_>)
+    ensures { Puts out.old (line (told report.entry)) out.new }
 {
-    let fill = put(out, fill, head);
-    let fill = put_word(out, fill, word);
-    end_line(out, fill)
-}
-
-fn two_words(out: &mut [u8], fill: usize, head: &[u8], first: &[u8], second: &[u8]) -> usize
-    ensures { Wrote out.old fill (spaced (head.now ∷ first.now ∷ second.now ∷ [])) out.new result }
-{
-    let fill = put(out, fill, head);
-    let fill = put_word(out, fill, first);
-    let fill = put_word(out, fill, second);
-    end_line(out, fill)
-}
-
-fn three_words(
-    out: &mut [u8],
-    fill: usize,
-    head: &[u8],
-    first: &[u8],
-    second: &[u8],
-    third: &[u8],
-) -> usize
-    ensures { Wrote out.old fill (spaced (head.now ∷ first.now ∷ second.now ∷ third.now ∷ [])) out.new result }
-{
-    let fill = put(out, fill, head);
-    let fill = put_word(out, fill, first);
-    let fill = put_word(out, fill, second);
-    let fill = put_word(out, fill, third);
-    end_line(out, fill)
-}
-
-fn word_and_count(out: &mut [u8], fill: usize, head: &[u8], word: &[u8], n: u64) -> usize
-    ensures { Wrote out.old fill (spaced (head.now ∷ word.now ∷ decimal n ∷ [])) out.new result }
-{
-    let fill = put(out, fill, head);
-    let fill = put_word(out, fill, word);
-    let fill = put_count(out, fill, n);
-    end_line(out, fill)
-}
-
-fn one_count(out: &mut [u8], fill: usize, head: &[u8], n: u64) -> usize
-    ensures { Wrote out.old fill (spaced (head.now ∷ decimal n ∷ [])) out.new result }
-{
-    let fill = put(out, fill, head);
-    let fill = put_count(out, fill, n);
-    end_line(out, fill)
-}
-
-fn two_counts(out: &mut [u8], fill: usize, head: &[u8], n: u64, m: u64) -> usize
-    ensures { Wrote out.old fill (spaced (head.now ∷ decimal n ∷ decimal m ∷ [])) out.new result }
-{
-    let fill = put(out, fill, head);
-    let fill = put_count(out, fill, n);
-    let fill = put_count(out, fill, m);
-    end_line(out, fill)
-}
-
-fn three_counts(out: &mut [u8], fill: usize, head: &[u8], n: u64, m: u64, k: u64) -> usize
-    ensures { Wrote out.old fill (spaced (head.now ∷ decimal n ∷ decimal m ∷ decimal k ∷ [])) out.new result }
-{
-    let fill = put(out, fill, head);
-    let fill = put_count(out, fill, n);
-    let fill = put_count(out, fill, m);
-    let fill = put_count(out, fill, k);
-    end_line(out, fill)
-}
-
-// The report's line from the fill on, as far as there is room. The answer is the fill after it.
-pub fn write_report(out: &mut [u8], fill: usize, report: Report) -> usize
-    ensures { Wrote out.old fill (line (told report.entry)) out.new result }
-{
+    use Field::{Count, Word};
     match report {
-        Report::Template(template, total) => word_and_count(
-            out,
-            fill,
-            b"template",
-            template,
-            total,
-        ),
-        Report::Minted(name) => one_word(out, fill, b"minted", name),
-        Report::Clock(second) => one_count(out, fill, b"clock", second),
-        Report::Held(name) => one_word(out, fill, b"held", name),
-        Report::Released(name) => one_word(out, fill, b"released", name),
-        Report::Queued(name) => one_word(out, fill, b"queued", name),
-        Report::Valid(name) => one_word(out, fill, b"valid", name),
-        Report::Bound(name, element) => two_words(out, fill, b"bound", name, element),
-        Report::Purged(name, element) => two_words(out, fill, b"purged", name, element),
-        Report::Fetched(name, element, text) => three_words(
-            out, fill, b"fetched", name, element, text,
-        ),
-        Report::Refused(at, refusal) => three_counts(
-            out,
-            fill,
-            b"refused",
-            at,
-            refusal.number as u64,
-            refusal.place as u64,
-        ),
-        Report::Tally(number, count) => two_counts(out, fill, b"tally", number as u64, count),
-        Report::Total(count) => one_count(out, fill, b"minted", count),
+        Report::Template(text, total) => put_line(out, b"template", &[Word(text), Count(total)]),
+        Report::Minted(name) => put_line(out, b"minted", &[Word(name)]),
+        Report::Clock(second) => put_line(out, b"clock", &[Count(second)]),
+        Report::Held(name) => put_line(out, b"held", &[Word(name)]),
+        Report::Released(name) => put_line(out, b"released", &[Word(name)]),
+        Report::Queued(name) => put_line(out, b"queued", &[Word(name)]),
+        Report::Valid(name) => put_line(out, b"valid", &[Word(name)]),
+        Report::Bound(name, element) => put_line(out, b"bound", &[Word(name), Word(element)]),
+        Report::Purged(name, element) => put_line(out, b"purged", &[Word(name), Word(element)]),
+        Report::Fetched(name, element, text) => {
+            put_line(out, b"fetched", &[Word(name), Word(element), Word(text)])
+        }
+        Report::Refused(at, refusal) => {
+            let number = u64::from(refusal.number);
+            let place = refusal.place as u64;
+            put_line(out, b"refused", &[Count(at), Count(number), Count(place)])
+        }
+        Report::Tally(number, count) => {
+            put_line(out, b"tally", &[Count(u64::from(number)), Count(count)])
+        }
+        Report::Total(count) => put_line(out, b"minted", &[Count(count)]),
     }
 }

@@ -1,8 +1,8 @@
 -- Texts put into a buffer one after another. Assumes nothing.
-use Rattle.std.proofs.Common.{◌≡◌, ℕ, zero, suc, ◌+◌, ◌-◌, ◌/◌, ◌%◌, ◌^◌, ◌<◌, ◌≤◌, ◌⊎◌, List, [], ◌∷◌, ◌++◌, length, take, drop, decimal, sym, ap, ◌∙◌, subst, inl, inr, append_assoc, append-nil, arith}
-use Rattle.texts.specs.Output.{fitting, written, Wrote}
-use Rattle.std.proofs.lemmas.Fmt.{decimal_digit, decimal_step}
-use Rattle.std.proofs.lemmas.List.{drop_all, drop_at, drop-drop, length-append, length-drop, length-take-le, take_all, take_at}
+use Rattle.std.proofs.Common.{◌≡◌, ℕ, zero, suc, ◌+◌, ◌-◌, ◌<◌, ◌≤◌, ◌⊎◌, List, [], ◌∷◌, ◌++◌, length, take, drop, sym, refl, ap, ◌∙◌, inl, inr, append_assoc, append-nil, arith}
+use Rattle.texts.specs.Output.{fitting, written, Wrote, Puts}
+use Rattle.texts.specs.declared.output.Output.{Output}
+use Rattle.std.proofs.lemmas.List.{drop_all, drop_at, drop-drop, length-append, length-drop, length-take-le, take_all, take_at, take-append-drop}
 use Rattle.std.proofs.lemmas.Bool.{cases_lt}
 
 -- no room at all
@@ -130,10 +130,19 @@ join {d} {d₁} {d₂} {s} {t} {at} {a₁} {a₂} x y =
       }
     ]
 
--- the digits of a number, one after another
-pub one_digit : {d d₁ : List ℕ} {at a₁ : ℕ} (n : ℕ) → n < 10 → Wrote d at ((48 + n) ∷ []) d₁ a₁ → Wrote d at (decimal n) d₁ a₁
-one_digit {d} {d₁} {at} {a₁} n h x = subst (λ (s : List ℕ). Wrote d at s d₁ a₁) (sym (decimal_digit n h)) x
+-- nothing was put
+pub puts_none : (o : Output) → Puts o [] o
+puts_none o =
+    let place : o.fill ≡ o.fill + 0 = omega arith in
+    let none : fitting o.bytes.now o.fill [] ≡ [] = take_all (length o.bytes.now - o.fill) [] (omega arith) in
+    record {
+      same_reference = refl;
+      wrote = record {
+        bytes = sym (take-append-drop o.fill o.bytes.now) ∙ (λ i. take o.fill o.bytes.now ++ (sym none i ++ drop (place i) o.bytes.now));
+        place = omega (arith, ap length none);
+      };
+    }
 
-pub last_digit : {d d₁ d₂ : List ℕ} {at a₁ a₂ : ℕ} (n : ℕ) → 10 ≤ n → n < 2 ^ 64
-    → Wrote d at (decimal (n / 10)) d₁ a₁ → Wrote d₁ a₁ ((48 + n % 10) ∷ []) d₂ a₂ → Wrote d at (decimal n) d₂ a₂
-last_digit {d} {d₁} {d₂} {at} {a₁} {a₂} n h f x y = subst (λ (s : List ℕ). Wrote d at s d₂ a₂) (sym (decimal_step n h f)) (join x y)
+-- one text after another is put as the two as one
+pub puts_join : {a b c : Output} {s t : List ℕ} → Puts a s b → Puts b t c → Puts a (s ++ t) c
+puts_join x y = record { same_reference = y.same_reference ∙ x.same_reference; wrote = join x.wrote y.wrote }

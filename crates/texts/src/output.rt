@@ -1,29 +1,48 @@
 // Bytes put into a lent buffer from a fill on; what finds no room is left out.
-ghost use Rattle.std.specs.Prelude.{◌≡◌, decimal};
-ghost use Rattle.texts.specs.Output.{Wrote};
+ghost use Rattle.std.specs.Prelude.{◌≡◌, ◌-◌, decimal, length};
+ghost use Rattle.texts.specs.Output.{Puts};
 
-// The text from the fill on, as far as there is room. The answer is the fill after it.
-pub fn put(out: &mut [u8], fill: usize, text: &[u8]) -> usize
-    ensures { Wrote out.old fill text.now out.new result }
-{
-    if fill >= out.len() {
-        return fill;
-    }
-    let room = out.len() - fill;
-    let many = if text.len() < room { text.len() } else { room };
-    let end = fill + many;
-    out[fill..end].copy_from_slice(&text[0..many]);
-    end
+// A lent buffer that is filled from a place on. The fill may lie past the end; no room is left then.
+#[derive(Drop)]
+pub struct Output<'a> {
+    pub bytes: &'a mut [u8],
+    pub fill: usize,
 }
 
-// A number in decimal from the fill on, as far as there is room.
-pub fn put_number(out: &mut [u8], fill: usize, n: u64) -> usize
-    ensures { Wrote out.old fill (decimal n) out.new result }
-{
-    if n < 10 {
-        put(out, fill, &[b'0' + n as u8])
-    } else {
-        let next = put_number(out, fill, n / 10);
-        put(out, next, &[b'0' + (n % 10) as u8])
+impl<'a> Output<'a> {
+    // The whole buffer, to be filled from its start.
+    pub fn over(bytes: &'a mut [u8]) -> Output<'a>
+        ensures same_reference { result.bytes.ghost_name ≡ bytes.entry.ghost_name }
+        ensures bytes { result.bytes.now ≡ bytes.old }
+        ensures fill { result.fill ≡ 0 }
+    {
+        Output { bytes, fill: 0 }
+    }
+
+    // How many bytes are free.
+    pub fn free(&self) -> usize
+        ensures { result ≡ length self.now.bytes.now - self.now.fill }
+    {
+        self.bytes.len().saturating_sub(self.fill)
+    }
+
+    // The text from the fill on, as far as there is room.
+    pub fn put(&mut self, text: &[u8])
+        ensures { Puts self.old text.now self.new }
+    {
+        let many = text.len().min(self.free());
+        if many == 0 {
+            return;
+        }
+        let end = self.fill + many;
+        self.bytes[self.fill..end].copy_from_slice(&text[..many]);
+        self.fill = end;
+    }
+
+    // A number in decimal from the fill on, as far as there is room.
+    pub fn put_number(&mut self, n: u64)
+        ensures { Puts self.old (decimal n) self.new }
+    {
+        self.put(itoa::Buffer::new().format(n).as_bytes());
     }
 }

@@ -1,5 +1,0 @@
-use Rattle.texts.proofs.Fill.{join}
-use Rattle.reports.proofs.three_words.Goals as goal
-
-pub returns : goal.returns
-returns c = join c.put-fill.ensures (join c.put_word-fill.ensures (join c.put_word-fill-2.ensures (join c.put_word-fill-3.ensures c.end_line.ensures)))

@@ -1,5 +1,0 @@
-use Rattle.texts.proofs.Fill.{join}
-use Rattle.reports.proofs.two_counts.Goals as goal
-
-pub returns : goal.returns
-returns c = join c.put-fill.ensures (join c.put_count-fill.ensures (join c.put_count-fill-2.ensures c.end_line.ensures))
