@@ -2,4 +2,3 @@ pub mod Ending
 pub mod Framing
 pub mod Lengths
 pub mod Performs
-pub mod Writes

@@ -18,7 +18,8 @@ use Rattle.reports.specs.Reports.{line, refused}
 use Rattle.sources.specs.Stock.{Stock}
 use Rattle.stores.specs.declared.tally.TallyKey.{TallyKey}
 use Rattle.stores.specs.declared.text.TextKey.{TextKey}
-use Rattle.texts.specs.Output.{Wrote}
+use Rattle.texts.specs.Output.{Puts}
+use Rattle.texts.specs.declared.output.Output as output
 use Rattle.sessions.specs.Performing.{Performed, performed}
 use Rattle.sessions.specs.Tallies.{Tallies, tallies_in, tallied}
 use Rattle.sessions.specs.declared.session.OpenSession.{OpenSession}
@@ -77,7 +78,7 @@ abbrev pub Within : Machine → Result Said CommandFault → Type 0
 Within m (Ok s) = length (performed m s).text ≤ 4000
 Within m (Err f) = Unit {0}
 
-pub record Replied (a : Answered) (after : Desk) (out : List ℕ) (fill : ℕ) (written : List ℕ) (reply : Reply) : Type 0 where
+pub record Replied (a : Answered) (after : Desk) (old new : output.Output) (reply : Reply) : Type 0 where
   pub desk : after ≡ a.desk
-  pub text : Wrote out fill a.text written reply.fill
+  pub text : Puts old a.text new
   pub fault : reply.fault ≡ a.fault

@@ -1,4 +1,4 @@
-use Rattle.std.proofs.Common.{◌≤◌, length, Result, subst, rules}
+use Rattle.std.proofs.Common.{◌≤◌, length, Result, subst}
 use Rattle.names.specs.Forms.{Form}
 use Rattle.names.specs.declared.fault.TemplateFault.{TemplateFault}
 use Rattle.reports.specs.Reports.{line, template}
@@ -6,11 +6,7 @@ use Rattle.sessions.proofs.Lengths.{template_short}
 use Rattle.sessions.specs.Opening.{new_desk, by_template}
 use Rattle.sessions.proofs.opening.enter.Goals as goal
 
-pub returns-in-Ok : goal.returns-in-Ok
-returns-in-Ok g c =
+pub returns-in-Ok-clause-brief : goal.returns-in-Ok-clause-brief
+returns-in-Ok-clause-brief g c = λ few.
     let d = new_desk g.U.Store.pairs g.U.Store.capacity c.args.tallies.now c.args.lines in
-    record {
-      led = search rules;
-      sound = search rules;
-      brief = λ few. subst (λ (r : Result Form TemplateFault). length (by_template d c.args.word.now r).text ≤ 160) c.in-Ok.ensures.answer (subst (λ n. length (line (template c.args.word.now n)) ≤ 160) c.total.ensures.value (template_short c.args.word.now c.total.result few c.total.type_inv));
-    }
+    subst (λ (r : Result Form TemplateFault). length (by_template d c.args.word.now r).text ≤ 160) c.in-Ok.ensures.answer (subst (λ n. length (line (template c.args.word.now n)) ≤ 160) c.total.ensures.value (template_short c.args.word.now c.total.result few c.total.type_inv))
