@@ -1,12 +1,12 @@
 // Command lines of an open session.
-ghost use Rattle.std.specs.Prelude.{◌≡◌, ◌-◌, ◌<◌, ◌≤◌, true, false, cond, ◌||◌, length, is_ok, OnOk, Ok, Err, nat_le, nat_lt};
+ghost use Rattle.std.specs.Prelude.{◌≡◌, ◌-◌, ◌<◌, ◌≤◌, true, false, ◌||◌, length, is_ok, OnOk, Ok, nat_le, nat_lt};
 ghost use Rattle.commands.specs.Faults.{command_refusal};
 ghost use Rattle.commands.specs.Forms.{reads, said, said_read};
 ghost use Rattle.minter.specs.Meaning.{meaning};
 ghost use Rattle.machine.specs.Runs.{Sound};
 ghost use Rattle.reports.specs.Reports.{line as bytes_of_line, refused};
 ghost use Rattle.texts.specs.Output.{Puts};
-ghost use Rattle.sessions.specs.Frames.{desk, heard, framed, answered, Within, Replied};
+ghost use Rattle.sessions.specs.Frames.{desk, heard, roomy, admitted, framed, answered, Within, Replied};
 ghost use Rattle.sessions.specs.Performing.{performed};
 ghost use Rattle.sessions.specs.Tallies.{tallies_in, tallied};
 
@@ -37,7 +37,7 @@ pub struct Reply {
 
 // That a line or an end finds room for its output.
 pub(crate) fn find_room(out: &Output<'_>) -> Result<(), CommandFault>
-    ensures { result ≡ cond (nat_lt (length out.now.bytes.now - out.now.fill) 4096) (Err CommandFault.Output) (Ok tt) }
+    ensures { result ≡ roomy (length out.now.bytes.now - out.now.fill) }
 {
     if out.free() < FREE {
         return Err(CommandFault::Output);
@@ -47,7 +47,7 @@ pub(crate) fn find_room(out: &Output<'_>) -> Result<(), CommandFault>
 
 // That a session that has counted so many lines may count one more, which finds room for its output.
 pub(crate) fn admit(lines: u64, out: &Output<'_>) -> Result<(), CommandFault>
-    ensures answer { result ≡ cond (nat_le 65535 lines) (Err CommandFault.Lines) (cond (nat_lt (length out.now.bytes.now - out.now.fill) 4096) (Err CommandFault.Output) (Ok tt)) }
+    ensures answer { result ≡ admitted (length out.now.bytes.now - out.now.fill) lines }
     ensures few { OnOk result (lines < 65535) }
 {
     if lines >= LINES {

@@ -1,7 +1,9 @@
 // The opening line of a session.
-ghost use Rattle.std.specs.Prelude.{◌≡◌, ◌-◌, ◌≤◌, true, ◌||◌, length, nat_le, nat_lt};
+ghost use Rattle.std.specs.Prelude.{◌≡◌, ◌-◌, ◌≤◌, true, ◌||◌, length, MatchResult, IfOk, Ok, nat_le, nat_lt};
+ghost use Rattle.commands.specs.Forms.{opens};
 ghost use Rattle.names.specs.Reader.{read_template};
-ghost use Rattle.sessions.specs.Opening.{new_desk, turned_away, by_template, opened, Led};
+ghost use Rattle.names.specs.Templates.{form};
+ghost use Rattle.sessions.specs.Opening.{NewDesk, new_desk, turned_away, entered, opened, Led};
 ghost use Rattle.sessions.specs.Tallies.{tallies_in};
 
 use crate::line::{admit, refuse};
@@ -26,41 +28,14 @@ pub struct TurnedAway {
     pub fault: CommandFault,
 }
 
-// Refuses an opening line that was counted.
-fn turn_away<U: Store<TallyKey, u64>>(
-    lines: u64,
-    fault: CommandFault,
-    tallies: &mut U,
-    out: &mut Output<'_>,
-) -> Result<Entered, TurnedAway>
-    ensures led { U.Store.sound tallies.old → Led (turned_away (new_desk U.Store.pairs U.Store.capacity tallies.old lines) fault) (tallies_in (U.Store.pairs tallies.new) (U.Store.capacity tallies.new)) out.old out.new result }
-    ensures sound { U.Store.sound tallies.old → U.Store.sound tallies.new }
-    ensures brief { length (turned_away (new_desk U.Store.pairs U.Store.capacity tallies.old lines) fault).text ≤ 71 }
+// The text that an opening line says, and the template that it is.
+fn read_line<'a>(line: &'a [u8]) -> Result<(&'a [u8], Template), CommandFault>
+    ensures reads { MatchResult result (λ x. (opens line.now ≡ Ok x.0.now) × (read_template x.0.now ≡ Ok (form x.1))) (λ fault. (d : NewDesk) → entered d (opens line.now) ≡ turned_away d fault) }
+    ensures short { IfOk result (λ x. length x.0.now ≤ 120) }
 {
-    refuse(lines, fault, tallies, out);
-    let session = NewSession { lines };
-    Err(TurnedAway { session, fault })
-}
-
-// Opens a session by the template that its line says, if it is one.
-fn enter<U: Store<TallyKey, u64>>(
-    lines: u64,
-    word: &[u8],
-    tallies: &mut U,
-    out: &mut Output<'_>,
-) -> Result<Entered, TurnedAway>
-    ensures led { U.Store.sound tallies.old → Led (by_template (new_desk U.Store.pairs U.Store.capacity tallies.old lines) word.now (read_template word.now)) (tallies_in (U.Store.pairs tallies.new) (U.Store.capacity tallies.new)) out.old out.new result }
-    ensures sound { U.Store.sound tallies.old → U.Store.sound tallies.new }
-    ensures brief { length word.now ≤ 120 → length (by_template (new_desk U.Store.pairs U.Store.capacity tallies.old lines) word.now (read_template word.now)).text ≤ 160 }
-{
-    match Template::read(word) {
-        Ok(template) => {
-            write_report(out, Report::Template(word, template.total()));
-            let session = OpenSession { lines, minted: 0 };
-            Ok(Entered { session, template })
-        }
-        Err(fault) => turn_away(lines, CommandFault::Template(fault), tallies, out),
-    }
+    let word = read_opening(line)?;
+    let template = Template::read(word).map_err(CommandFault::Template)?;
+    Ok((word, template))
 }
 
 impl NewSession {
@@ -99,9 +74,17 @@ impl NewSession {
         }
         let NewSession { lines } = self;
         let lines = lines + 1;
-        match read_opening(text) {
-            Ok(word) => enter(lines, word, tallies, out),
-            Err(fault) => turn_away(lines, fault, tallies, out),
+        match read_line(text) {
+            Ok((word, template)) => {
+                write_report(out, Report::Template(word, template.total()));
+                let session = OpenSession { lines, minted: 0 };
+                Ok(Entered { session, template })
+            }
+            Err(fault) => {
+                refuse(lines, fault, tallies, out);
+                let session = NewSession { lines };
+                Err(TurnedAway { session, fault })
+            }
         }
     }
 }
