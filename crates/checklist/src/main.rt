@@ -3,29 +3,14 @@
 
 mod sheet;
 
-use names::fault::{Layer, Refusal};
+use names::fault::Refusal;
 use names::template::Template;
 use sheet::{Verdict, check_name, count_names};
 use std::io::Read;
 use texts::piece_end;
 
-fn layer(layer: Layer) -> &'static str {
-    match layer {
-        Layer::Template => "template",
-        Layer::Name => "name",
-        Layer::Source => "source",
-        Layer::Register => "register",
-        Layer::Store => "store",
-        Layer::Command => "command",
-        Layer::Program => "program",
-    }
-}
-
 fn print_refusal(rt: &impl Print, line: usize, refusal: Refusal) -> anyhow::Result<()> {
-    let number = refusal.number;
-    let layer = layer(refusal.layer);
-    let place = refusal.place;
-    println!(rt; "line {line}: refused {number}, {layer}, place {place}")?;
+    println!(rt; "line {line}: {refusal}")?;
     Ok(())
 }
 
@@ -48,7 +33,7 @@ fn print_sheet(rt: &impl Print, input: &[u8]) -> anyhow::Result<()> {
     let end = piece_end(input, 0, b'\n');
     let template = match Template::read(&input[0..end]) {
         Ok(template) => template,
-        Err(fault) => return print_refusal(rt, 1, fault.refusal()),
+        Err(fault) => return print_refusal(rt, 1, fault.into()),
     };
     let total = template.total();
     println!(rt; "names: {total}")?;

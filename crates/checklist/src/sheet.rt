@@ -27,7 +27,7 @@ pub fn check_name(template: &Template, line: &[u8]) -> Verdict
 {
     match template.validate(line) {
         Ok(number) => Verdict::Good(number),
-        Err(fault) => Verdict::Refused(fault.refusal()),
+        Err(fault) => Verdict::Refused(fault.into()),
     }
 }
 

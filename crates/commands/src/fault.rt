@@ -1,6 +1,7 @@
 // Why a line is refused.
 ghost use Rattle.std.specs.Prelude.{◌≡◌};
 ghost use Rattle.commands.specs.Faults.{command_refusal};
+ghost use Rattle.commands.specs.declared.fault.CommandFault.TheVariants.{Template, Register};
 
 use machine::fault::RegisterFault;
 use names::fault::{Layer, Refusal, TemplateFault};
@@ -17,13 +18,13 @@ pub enum CommandFault {
     Input,
 }
 
-impl CommandFault {
-    pub fn refusal(self) -> Refusal
-        ensures { result ≡ command_refusal self }
-    {
-        let (number, layer, place) = match self {
-            CommandFault::Template(fault) => return fault.refusal(),
-            CommandFault::Register(fault) => return fault.refusal(),
+impl From<CommandFault> for Refusal {
+    ghost from_gives = { λ x y. y ≡ command_refusal x };
+
+    fn from(fault: CommandFault) -> Refusal {
+        let (number, layer, place) = match fault {
+            CommandFault::Template(fault) => return Refusal::from(fault),
+            CommandFault::Register(fault) => return Refusal::from(fault),
             CommandFault::Line(at) => (27, Layer::Command, at),
             CommandFault::Lines => (28, Layer::Command, 0),
             CommandFault::Output => (29, Layer::Command, 0),
@@ -34,5 +35,21 @@ impl CommandFault {
             layer,
             place,
         }
+    }
+}
+
+impl From<TemplateFault> for CommandFault {
+    ghost from_gives = { λ x y. y ≡ Template x };
+
+    fn from(value: TemplateFault) -> CommandFault {
+        CommandFault::Template(value)
+    }
+}
+
+impl From<RegisterFault> for CommandFault {
+    ghost from_gives = { λ x y. y ≡ Register x };
+
+    fn from(value: RegisterFault) -> CommandFault {
+        CommandFault::Register(value)
     }
 }

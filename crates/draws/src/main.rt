@@ -15,15 +15,15 @@ use std::io::Read;
 use texts::piece_end;
 
 fn print_refusal(rt: &impl Print, refusal: Refusal) -> anyhow::Result<()> {
-    let number = refusal.number;
-    let place = refusal.place;
-    println!(rt; "template refused {number}, place {place}")?;
+    println!(rt;
+        "template refused {}, place {}",
+        refusal.number, refusal.place
+    )?;
     Ok(())
 }
 
 fn print_name(rt: &impl Print, number: u64, name: Name) -> anyhow::Result<()> {
-    let text = std::str::from_utf8(name.as_slice())?;
-    println!(rt; "{text} number {number}")?;
+    println!(rt; "{name} number {number}")?;
     Ok(())
 }
 
@@ -44,7 +44,7 @@ fn print_draws(rt: &impl Print, input: &[u8]) -> anyhow::Result<()> {
     let end = piece_end(input, 0, b'\n');
     let template = match Template::read(&input[0..end]) {
         Ok(template) => template,
-        Err(fault) => return print_refusal(rt, fault.refusal()),
+        Err(fault) => return print_refusal(rt, fault.into()),
     };
     if end >= input.len() {
         return Err(anyhow!("the second line, a count, is missing"));

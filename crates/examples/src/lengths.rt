@@ -17,14 +17,14 @@ fn chain_refusal(rt: &HostRuntime, records: usize) -> anyhow::Result<Option<Refu
     }; records]?;
     match format(nodes.as_mut_slice()) {
         Ok(_) => Ok(None),
-        Err(fault) => Ok(Some(fault.refusal())),
+        Err(fault) => Ok(Some(fault.into())),
     }
 }
 
 fn log_refusal(entries: &[Entry<TallyKey, u64>]) -> Option<Refusal> {
     match check_length(entries) {
         Ok(_) => None,
-        Err(fault) => Some(fault.refusal()),
+        Err(fault) => Some(fault.into()),
     }
 }
 

@@ -11,7 +11,7 @@ use sources::source::Source;
 fn roll_refusal(numbers: &[u64]) -> anyhow::Result<Option<Refusal>> {
     let (_, fault) = Roll::new(template()?, numbers);
     match fault {
-        Some(fault) => Ok(Some(fault.refusal())),
+        Some(fault) => Ok(Some(fault.into())),
         None => Ok(None),
     }
 }
@@ -23,7 +23,7 @@ fn hold_refusal(rt: &HostRuntime, numbers: &[u64], name: &[u8]) -> anyhow::Resul
     let mut register = Register::new(rt.alloc(), roll, Log::over(&mut records))?;
     match register.hold(name) {
         Ok(_) => Ok(None),
-        Err(fault) => Ok(Some(fault.refusal())),
+        Err(fault) => Ok(Some(fault.into())),
     }
 }
 

@@ -54,7 +54,7 @@ fn opening_refusal(lines: u64, out: &mut [u8]) -> Option<Refusal> {
                 fault,
             } = away;
             session.leave();
-            Some(fault.refusal())
+            Some(fault.into())
         }
     }
 }
@@ -106,10 +106,7 @@ fn line_refusal<S: Source, T: Store<TextKey, Text>>(
                 fault,
             } = session.line(register, &mut tallies, b"mint 1", out, 0);
             finish(session, &tallies, &mut wide);
-            match fault {
-                Some(fault) => Some(fault.refusal()),
-                None => None,
-            }
+            fault.map(Refusal::from)
         }
         None => None,
     }
@@ -130,7 +127,7 @@ fn end_refusal(out: &mut [u8]) -> Option<Refusal> {
             Err(still) => {
                 let StillOpen { session, fault } = still;
                 finish(session, &tallies, &mut wide);
-                Some(fault.refusal())
+                Some(fault.into())
             }
         },
         None => None,

@@ -28,14 +28,14 @@ pub enum RegisterFault {
     AllStopped,
 }
 
-impl RegisterFault {
-    pub fn refusal(self) -> Refusal
-        ensures { result ≡ register_refusal self }
-    {
-        let number = match self {
-            RegisterFault::Name(fault) => return fault.refusal(),
-            RegisterFault::Source(fault) => return fault.refusal(),
-            RegisterFault::Store(fault) => return fault.refusal(),
+impl From<RegisterFault> for Refusal {
+    ghost from_gives = { λ x y. y ≡ register_refusal x };
+
+    fn from(fault: RegisterFault) -> Refusal {
+        let number = match fault {
+            RegisterFault::Name(fault) => return Refusal::from(fault),
+            RegisterFault::Source(fault) => return Refusal::from(fault),
+            RegisterFault::Store(fault) => return Refusal::from(fault),
             RegisterFault::HeldAlready => 10,
             RegisterFault::NotHeld => 11,
             RegisterFault::HoldPlaces => 12,

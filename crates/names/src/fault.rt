@@ -2,6 +2,8 @@
 ghost use Rattle.std.specs.Prelude.{◌≡◌};
 ghost use Rattle.names.specs.Faults.{template_refusal, name_refusal};
 
+use std::fmt;
+
 // The layer that refuses.
 #[derive(Clone, Copy, PartialEq, Eq, Debug)]
 pub enum Layer {
@@ -40,11 +42,34 @@ pub enum NameFault {
     Check(usize),
 }
 
-impl TemplateFault {
-    pub fn refusal(self) -> Refusal
-        ensures { result ≡ template_refusal self }
-    {
-        let (number, place) = match self {
+impl fmt::Display for Layer {
+    fn fmt<W: fmt::Write>(&self, f: &mut fmt::Formatter<W>) -> fmt::Result {
+        f.write_str(match self {
+            Layer::Template => "template",
+            Layer::Name => "name",
+            Layer::Source => "source",
+            Layer::Register => "register",
+            Layer::Store => "store",
+            Layer::Command => "command",
+            Layer::Program => "program",
+        })
+    }
+}
+
+impl fmt::Display for Refusal {
+    fn fmt<W: fmt::Write>(&self, f: &mut fmt::Formatter<W>) -> fmt::Result {
+        let number = self.number;
+        let layer = self.layer;
+        let place = self.place;
+        write!(f, "refused {number}, {layer}, place {place}")
+    }
+}
+
+impl From<TemplateFault> for Refusal {
+    ghost from_gives = { λ x y. y ≡ template_refusal x };
+
+    fn from(fault: TemplateFault) -> Refusal {
+        let (number, place) = match fault {
             TemplateFault::Naan(at) => (1, at),
             TemplateFault::Shoulder(at) => (2, at),
             TemplateFault::Letter(at) => (3, at),
@@ -59,11 +84,11 @@ impl TemplateFault {
     }
 }
 
-impl NameFault {
-    pub fn refusal(self) -> Refusal
-        ensures { result ≡ name_refusal self }
-    {
-        let (number, place) = match self {
+impl From<NameFault> for Refusal {
+    ghost from_gives = { λ x y. y ≡ name_refusal x };
+
+    fn from(fault: NameFault) -> Refusal {
+        let (number, place) = match fault {
             NameFault::Length(at) => (6, at),
             NameFault::Byte(at) => (7, at),
             NameFault::Check(at) => (8, at),

@@ -1,5 +1,6 @@
 // An account of a run kept apart from the register: what its answers say of each number.
 use machine::call::{Answer, Call};
+use names::fault::Refusal;
 use std::alloc::{AllocError, Global};
 use std::collections::BTreeMap;
 
@@ -127,7 +128,7 @@ impl Ledger {
         let at = kind(call) % 7;
         self.asked[at] = self.asked[at].saturating_add(1);
         if let Answer::Refused(fault) = answer {
-            return self.refuse(fault.refusal().number);
+            return self.refuse(Refusal::from(*fault).number);
         }
         self.accepted[at] = self.accepted[at].saturating_add(1);
         match answer {

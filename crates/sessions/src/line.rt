@@ -61,7 +61,7 @@ fn tally<U: Store<TallyKey, u64>>(tallies: &mut U, fault: CommandFault)
     ensures after { U.Store.sound tallies.old → tallies_in (U.Store.pairs tallies.new) (U.Store.capacity tallies.new) ≡ tallied (command_refusal fault).number (tallies_in (U.Store.pairs tallies.old) (U.Store.capacity tallies.old)) }
     ensures sound { U.Store.sound tallies.old → U.Store.sound tallies.new }
 {
-    let number = fault.refusal().number;
+    let number = Refusal::from(fault).number;
     let _ = raise(tallies, TallyKey { number });
 }
 
@@ -70,7 +70,7 @@ pub fn write_fault(lines: u64, fault: CommandFault, out: &mut Output<'_>)
     ensures text { Puts out.old (bytes_of_line (refused lines (command_refusal fault).number (command_refusal fault).place)) out.new }
     ensures brief { length (bytes_of_line (refused lines (command_refusal fault).number (command_refusal fault).place)) ≤ 71 }
 {
-    write_report(out, Report::Refused(lines, fault.refusal()))
+    write_report(out, Report::Refused(lines, Refusal::from(fault)))
 }
 
 // Refuses a line: its tally, and its report line.
@@ -109,7 +109,7 @@ fn hear<S: Source, T: Store<TextKey, Text>, U: Store<TallyKey, u64>>(
         lines,
         minted: minted.saturating_add(done.minted),
     };
-    let fault = done.fault.map(CommandFault::Register);
+    let fault = done.fault.map(CommandFault::from);
     if let Some(fault) = fault {
         refuse(lines, fault, tallies, out);
     }

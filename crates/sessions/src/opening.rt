@@ -34,7 +34,7 @@ fn read_line<'a>(line: &'a [u8]) -> Result<(&'a [u8], Template), CommandFault>
     ensures short { IfOk result (λ x. length x.0.now ≤ 120) }
 {
     let word = read_opening(line)?;
-    let template = Template::read(word).map_err(CommandFault::Template)?;
+    let template = Template::read(word)?;
     Ok((word, template))
 }
 

@@ -11,11 +11,11 @@ pub enum SourceFault {
     Roll(usize),
 }
 
-impl SourceFault {
-    pub fn refusal(self) -> Refusal
-        ensures { result ≡ source_refusal self }
-    {
-        let (number, place) = match self {
+impl From<SourceFault> for Refusal {
+    ghost from_gives = { λ x y. y ≡ source_refusal x };
+
+    fn from(fault: SourceFault) -> Refusal {
+        let (number, place) = match fault {
             SourceFault::Foreign => (9, 0),
             SourceFault::Roll(at) => (26, at),
         };

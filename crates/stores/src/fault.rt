@@ -11,11 +11,11 @@ pub enum StoreFault {
     Length,
 }
 
-impl StoreFault {
-    pub fn refusal(self) -> Refusal
-        ensures { result ≡ store_refusal self }
-    {
-        let number = match self {
+impl From<StoreFault> for Refusal {
+    ghost from_gives = { λ x y. y ≡ store_refusal x };
+
+    fn from(fault: StoreFault) -> Refusal {
+        let number = match fault {
             StoreFault::Full => 24,
             StoreFault::Length => 25,
         };

@@ -1,11 +1,12 @@
 // Where lines are refused.
 use commands::reading::read_command;
+use names::fault::Refusal;
 
 // The place where a line is refused, or 1,000 for one that is read.
 fn place(line: &[u8]) -> usize {
     match read_command(line) {
         Ok(_) => 1000,
-        Err(fault) => fault.refusal().place,
+        Err(fault) => Refusal::from(fault).place,
     }
 }
 

@@ -3,6 +3,7 @@ ghost use Rattle.std.specs.Prelude.{◌≡◌, ◌≤◌, take};
 ghost use Rattle.names.specs.Texts.{text_of};
 
 use super::Name;
+use std::fmt;
 
 impl Name {
     // The name of the first `len` bytes.
@@ -19,5 +20,14 @@ impl Name {
     {
         let len = self.len;
         &self.bytes[0..len]
+    }
+}
+
+impl fmt::Display for Name {
+    fn fmt<W: fmt::Write>(&self, f: &mut fmt::Formatter<W>) -> fmt::Result {
+        for b in self.as_slice() {
+            f.write_char(char::from(*b))?;
+        }
+        Ok(())
     }
 }
