@@ -17,6 +17,7 @@ use commands::fault::CommandFault;
 use commands::reading::read_command;
 use machine::text::Text;
 use minter::register::Register;
+use names::fault::Refusal;
 use reports::{Report, write_report};
 use sources::source::Source;
 use stores::store::Store;
