@@ -5,9 +5,10 @@ mod sheet;
 
 use names::fault::Refusal;
 use names::template::Template;
-use sheet::{Verdict, check_name, count_names};
+use sheet::{check_name, count_names};
 use std::io::Read;
 use texts::piece_end;
+use texts::pieces::Pieces;
 
 fn print_refusal(rt: &impl Print, line: usize, refusal: Refusal) -> anyhow::Result<()> {
     println!(rt; "line {line}: {refusal}")?;
@@ -15,16 +16,12 @@ fn print_refusal(rt: &impl Print, line: usize, refusal: Refusal) -> anyhow::Resu
 }
 
 fn print_verdicts(rt: &impl Print, template: &Template, text: &[u8]) -> anyhow::Result<()> {
-    let mut line: usize = 1;
-    let mut from = 0;
-    while from < text.len() {
-        let to = piece_end(text, from, b'\n');
-        line = line.saturating_add(1);
-        match check_name(template, &text[from..to]) {
-            Verdict::Good(number) => println!(rt; "line {line}: number {number}")?,
-            Verdict::Refused(refusal) => print_refusal(rt, line, refusal)?,
+    for (before, name) in Pieces::of(text, b'\n').enumerate() {
+        let line = before.saturating_add(2);
+        match check_name(template, name) {
+            Ok(number) => println!(rt; "line {line}: number {number}")?,
+            Err(refusal) => print_refusal(rt, line, refusal)?,
         }
-        from = to + 1;
     }
     Ok(())
 }
@@ -37,11 +34,7 @@ fn print_sheet(rt: &impl Print, input: &[u8]) -> anyhow::Result<()> {
     };
     let total = template.total();
     println!(rt; "names: {total}")?;
-    let names = if end < input.len() {
-        &input[end + 1..]
-    } else {
-        &input[end..]
-    };
+    let names = input.get(end + 1..).unwrap_or(&[]);
     print_verdicts(rt, &template, names)?;
     let counts = count_names(&template, names);
     let good = counts.good;

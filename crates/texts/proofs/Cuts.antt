@@ -1,7 +1,30 @@
 -- How a text's pieces begin. Assumes nothing.
-use Rattle.std.proofs.Common.{◌≡◌, ℕ, suc, ◌+◌, ◌-◌, ◌<◌, ◌≤◌, true, false, cond, eqb, List, [], ◌∷◌, length, get_or, take, drop, sym, refl, ap, ◌∙◌, arith}
+use Rattle.std.proofs.Common.{◌≡◌, ℕ, suc, ◌+◌, ◌-◌, ◌<◌, ◌≤◌, true, false, cond, eqb, ltb, not, ◌==◌, Some, None, inl, inr, List, [], ◌∷◌, length, get_or, take, drop, sym, refl, ap, ◌∙◌, arith}
 use Rattle.std.proofs.lemmas.List.{at_drop_more, at_drop_all, drop-drop, length-drop}
+use Rattle.std.proofs.lemmas.List.Recursion.{is_position_or_len}
+use Rattle.std.proofs.lemmas.List.Sums.{prefix_len-le-length}
+use Rattle.std.proofs.lemmas.Bool.{cases_lt}
+use Rattle.std.proofs.lemmas.Bool.Decides.{nat_tests}
+use Rattle.std.specs.List.{position, position_or_len}
+use Rattle.std.specs.Option.{unwrap_or}
 use Rattle.texts.specs.Pieces.{upto, onto, pieces}
+
+step : (m b : ℕ) (bs : List ℕ) → length (upto m (b ∷ bs)) ≡ cond (b == m) 0 (1 + length (upto m bs))
+step m b bs = elim (b == m) as (λ v. length (cond v [] (b ∷ upto m bs)) ≡ cond v 0 (1 + length (upto m bs))) [ true ↦ refl | false ↦ omega arith ]
+
+-- the piece ends at the first mark, or with the text
+pub length-upto : (m : ℕ) (bs : List ℕ) → length (upto m bs) ≡ position_or_len (λ b. b == m) bs
+length-upto m bs = is_position_or_len (λ l. length (upto m l)) (λ b. b == m) refl (λ b l. step m b l) bs
+
+-- what `position` finds, or the length, is where the piece ends
+found : (p n : ℕ) → p ≤ n → unwrap_or (cond (ltb p n) (Some p) None) n ≡ p
+found p n h = elim (cases_lt p n) [
+  | inl less ↦ grind (arith, nat_tests)
+  | inr more ↦ grind (arith, nat_tests)
+]
+
+pub found_upto : (m : ℕ) (bs : List ℕ) → unwrap_or (position (λ b. b == m) bs) (length bs) ≡ length (upto m bs)
+found_upto m bs = found (position_or_len (λ b. b == m) bs) (length bs) (prefix_len-le-length (λ b. not (b == m)) bs) ∙ sym (length-upto m bs)
 
 -- one byte on, at the mark, and at the text's end
 pub upto_more : (m : ℕ) (bs : List ℕ) (i : ℕ) → i < length bs → eqb (get_or bs i 0) m ≡ false → upto m (drop i bs) ≡ get_or bs i 0 ∷ upto m (drop (i + 1) bs)
@@ -44,3 +67,17 @@ cut_at m bs from r e h =
     let front : take (r - from) (drop from bs) ≡ upto m (drop from bs) = ap (λ k. take k (drop from bs)) long ∙ take_upto m (drop from bs) in
     let back : drop (suc (length (upto m (drop from bs)))) (drop from bs) ≡ drop (r + 1) bs = drop-drop (suc (length (upto m (drop from bs)))) from bs ∙ ap (λ k. drop k bs) next in
     first_piece m (drop from bs) some ∙ ap (λ l. l ∷ pieces m (drop (suc (length (upto m (drop from bs)))) (drop from bs))) (sym front) ∙ ap (λ l. take (r - from) (drop from bs) ∷ pieces m l) back
+
+-- a text has no more pieces than bytes
+length-onto : (b : ℕ) (ps : List (List ℕ)) (n : ℕ) → length ps ≤ n → length (onto b ps) ≤ n + 1
+length-onto b [] n h = omega arith
+length-onto b (p ∷ ps) n h = omega arith
+
+pub pieces_few : (m : ℕ) (bs : List ℕ) → length (pieces m bs) ≤ length bs
+pieces_few m [] = omega arith
+pieces_few m (b ∷ bs) =
+    let ih = pieces_few m bs in
+    elim (b == m) as (λ v. length (cond v ([] ∷ pieces m bs) (onto b (pieces m bs))) ≤ length (b ∷ bs)) [
+      | true ↦ omega (arith, ih)
+      | false ↦ omega (arith, length-onto b (pieces m bs) (length bs) ih)
+    ]

@@ -5,6 +5,7 @@ ghost use Rattle.std.specs.Prelude.{◌≡◌, ◌+◌, ◌-◌, ◌<◌, ◌≤
 ghost use Rattle.texts.specs.Pieces.{pieces, upto};
 
 pub mod output;
+pub mod pieces;
 
 // Where the piece that begins at `from` ends: at the next `mark`, or with the text. From past the text's end on that is `from` itself.
 pub fn piece_end(text: &[u8], from: usize, mark: u8) -> usize
@@ -12,12 +13,10 @@ pub fn piece_end(text: &[u8], from: usize, mark: u8) -> usize
     ensures within { from ≤ length text.now → result ≤ length text.now }
     ensures cut { from < length text.now → pieces mark (drop from text.now) ≡ take (result - from) (drop from text.now) ∷ pieces mark (drop (result + 1) text.now) }
 {
-    for i in from..text.len() {
-        if text[i] == mark {
-            return i;
-        }
+    match text.get(from..) {
+        Some(rest) => from + rest.iter().position(|b| *b == mark).unwrap_or(rest.len()),
+        None => from,
     }
-    if from < text.len() { text.len() } else { from }
 }
 
 #[cfg(test)]
