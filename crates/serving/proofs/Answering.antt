@@ -1,5 +1,5 @@
 -- An open session that was given some of its lines. Assumes nothing.
-use Rattle.std.proofs.Common.{◌≡◌, ℕ, ◌+◌, ◌-◌, ◌*◌, ◌<◌, ◌≤◌, false, cond, ltb, leb, List, [], ◌∷◌, ◌++◌, length, take, drop, sym, refl, ap, ◌∙◌, subst, append_assoc, append-nil, arith}
+use Rattle.std.proofs.Common.{◌≡◌, ℕ, ◌+◌, ◌-◌, ◌*◌, ◌≤◌, false, cond, ltb, leb, List, [], ◌∷◌, ◌++◌, length, take, drop, sym, refl, ap, ◌∙◌, append_assoc, arith}
 use Rattle.commands.specs.Forms.{reads}
 use Rattle.commands.specs.declared.fault.CommandFault.TheVariants.{Lines, Output}
 use Rattle.machine.specs.Runs.{Sound}
@@ -38,8 +38,7 @@ pub put_whole : {old new : output.Output} {text : List ℕ} → Puts old text ne
 put_whole {old} {new} {text} put h =
     let all : take (length old.bytes.now - old.fill) text ≡ text = take_all (length old.bytes.now - old.fill) text (omega arith) in
     let front = length-append (take old.fill old.bytes.now) (take (length old.bytes.now - old.fill) text ++ drop (old.fill + length text) old.bytes.now) in
-    let back = length-append (take (length old.bytes.now - old.fill) text) (drop (old.fill + length text) old.bytes.now) in
-    (
+    let back = length-append (take (length old.bytes.now - old.fill) text) (drop (old.fill + length text) old.bytes.now) in (
       put.wrote.place ∙ ap (λ (t : List ℕ). old.fill + length t) all,
       omega (arith, ap length put.wrote.bytes, front, back, ap length all, length-take-le old.fill old.bytes.now (omega arith), length-drop (old.fill + length text) old.bytes.now),
     )

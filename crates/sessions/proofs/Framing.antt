@@ -1,5 +1,5 @@
 -- Lines that are counted. Assumes nothing.
-use Rattle.std.proofs.Common.{◌≡◌, ℕ, ◌+◌, ◌≤◌, min, List, length, Some, None, Ok, MatchOption, Option, refl, sym, ap, ◌∙◌, subst, arith, length-append}
+use Rattle.std.proofs.Common.{◌≡◌, ℕ, ◌+◌, min, Some, None, Ok, MatchOption, Option, refl, sym, ap, ◌∙◌, subst}
 use Rattle.commands.specs.Faults.{command_refusal}
 use Rattle.commands.specs.Forms.{Said}
 use Rattle.commands.specs.declared.fault.CommandFault.{CommandFault}

@@ -1,4 +1,4 @@
-use Rattle.std.proofs.Common.{◌≡◌, ℕ, ◌-◌, List, ◌++◌, length, is_ok, Result, sym, refl, ap, ◌∙◌, subst, ap₂, arith}
+use Rattle.std.proofs.Common.{◌≡◌, ℕ, ◌-◌, List, ◌++◌, length, is_ok, Result, sym, ap, ◌∙◌, subst, ap₂, arith}
 use Rattle.machine.specs.Machine.{fresh}
 use Rattle.names.specs.Templates.{form}
 use Rattle.sessions.specs.Ends.{closing, Closes}

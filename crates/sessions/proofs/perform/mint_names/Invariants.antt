@@ -10,5 +10,5 @@ invariant-loop-i g l =
     record {
       minting : Sound (m l.initial.register) → g.T.Store.sound l.initial.register.texts → Minting (g.T.Store.sound l.register.texts) (m l.initial.register) (m l.register) l.count l.i l.initial.out l.out;
       untouched : l.i ≡ 0 → l.register ≡ l.initial.register;
-      store : g.T.Store.sound l.initial.register.texts → g.T.Store.sound l.register.texts
+      store : g.T.Store.sound l.initial.register.texts → g.T.Store.sound l.register.texts;
     }

@@ -1,10 +1,8 @@
-use Rattle.std.proofs.Common.{◌≡◌, ◌+◌, ◌-◌, length, Err, sym, refl, ap, ◌∙◌, subst, arith}
-use Rattle.commands.specs.Forms.{opens}
-use Rattle.names.specs.Templates.{form}
+use Rattle.std.proofs.Common.{◌+◌, ◌-◌, length, Err, sym, refl, ap, ◌∙◌, subst, arith}
 use Rattle.reports.specs.Reports.{line, template}
 use Rattle.sessions.proofs.Entering.{opened_counted}
 use Rattle.sessions.proofs.Lengths.{template_short}
-use Rattle.sessions.specs.Opening.{NewDesk, Opened, new_desk, by_template, entered, Led}
+use Rattle.sessions.specs.Opening.{Opened, new_desk, by_template, entered, Led}
 use Rattle.sessions.specs.Tallies.{Tallies, tallies_in}
 use Rattle.sessions.proofs.session.NewSession.opening.Goals as goal
 

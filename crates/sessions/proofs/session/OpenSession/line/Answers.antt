@@ -1,7 +1,6 @@
 use Rattle.std.proofs.Common.{◌-◌, ◌≤◌, length, Result, refl, subst}
 use Rattle.commands.specs.Forms.{Said}
 use Rattle.commands.specs.declared.fault.CommandFault.{CommandFault}
-use Rattle.minter.specs.Meaning.{meaning}
 use Rattle.sessions.proofs.Lengths.{read_short}
 use Rattle.sessions.specs.Frames.{desk, framed}
 use Rattle.sessions.proofs.session.OpenSession.line.Goals as goal
