@@ -36,12 +36,7 @@ pub(crate) fn answer_lines<S: Source, T: Store<TextKey, Text>, U: Store<TallyKey
 {
     let mut session = session;
     for line in lines {
-        let reply = session.line(register, tallies, line, out);
-        let Reply {
-            session: next,
-            fault: _,
-        } = reply;
-        session = next;
+        Reply { session, fault: _ } = session.line(register, tallies, line, out);
     }
     session
 }

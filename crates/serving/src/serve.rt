@@ -7,7 +7,6 @@ ghost use Rattle.texts.specs.Pieces.{pieces};
 ghost use Rattle.serving.specs.Ruling.{Ruled, RuledBy, RuledInput};
 ghost use Rattle.serving.specs.Serving.{awaited, open_desk, open_text, session_text, unread, report, needed, served_answer, served_buffer};
 
-use crate::count::count_lines;
 use crate::lines::answer_lines;
 use crate::memory::Memory;
 use crate::opening::find_opening;
@@ -109,7 +108,7 @@ fn bytes_needed(input: &[u8]) -> usize
     let lines = if input.len() > LONGEST {
         0
     } else {
-        count_lines(input)
+        Pieces::of(input, b'\n').count()
     };
     FREE * (lines + 1)
 }
