@@ -5,7 +5,7 @@ mod sheet;
 
 use names::fault::Refusal;
 use names::template::Template;
-use sheet::{check_name, count_names};
+use sheet::{Counts, check_name, count_names};
 use std::io::Read;
 use texts::piece_end;
 use texts::pieces::Pieces;
@@ -26,27 +26,27 @@ fn print_verdicts(rt: &impl Print, template: &Template, text: &[u8]) -> anyhow::
     Ok(())
 }
 
-fn print_sheet(rt: &impl Print, input: &[u8]) -> anyhow::Result<()> {
-    let end = piece_end(input, 0, b'\n');
-    let template = match Template::read(&input[0..end]) {
-        Ok(template) => template,
-        Err(fault) => return print_refusal(rt, 1, fault.into()),
-    };
-    let total = template.total();
-    println!(rt; "names: {total}")?;
-    let names = input.get(end + 1..).unwrap_or(&[]);
-    print_verdicts(rt, &template, names)?;
-    let counts = count_names(&template, names);
-    let good = counts.good;
-    let refused = counts.refused;
+fn print_sheet(rt: &impl Print, template: &Template, names: &[u8]) -> anyhow::Result<()> {
+    println!(rt; "names: {}", template.total())?;
+    print_verdicts(rt, template, names)?;
+    let Counts { good, refused } = count_names(template, names);
     println!(rt; "good: {good}, refused: {refused}")?;
     Ok(())
+}
+
+fn print_answer(rt: &impl Print, input: &[u8]) -> anyhow::Result<()> {
+    let end = piece_end(input, 0, b'\n');
+    let names = input.get(end + 1..).unwrap_or(&[]);
+    match Template::read(&input[..end]) {
+        Ok(template) => print_sheet(rt, &template, names),
+        Err(fault) => print_refusal(rt, 1, fault.into()),
+    }
 }
 
 fn run(rt: &HostRuntime) -> anyhow::Result<()> {
     let mut input = Vec::new(rt.alloc());
     rt.stdin().read_to_end(&mut input)?;
-    print_sheet(rt, input.as_slice())
+    print_answer(rt, input.as_slice())
 }
 
 fn main(rt: HostRuntime) -> anyhow::Result<()> {

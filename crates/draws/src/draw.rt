@@ -11,8 +11,6 @@ pub fn draw_name<S: Source>(source: &mut S) -> Option<(u64, Name)>
     ensures answer { shown result ≡ next (S.Source.stock source.old) }
     ensures after { S.Source.stock source.new ≡ drawn (S.Source.stock source.old) }
 {
-    match source.draw() {
-        Some(n) => Some((n, source.name(n))),
-        None => None,
-    }
+    let n = source.draw()?;
+    Some((n, source.name(n)))
 }

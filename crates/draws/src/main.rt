@@ -12,7 +12,6 @@ use sources::chooser::ByLetter;
 use sources::generator::Generator;
 use sources::source::Source;
 use std::io::Read;
-use texts::piece_end;
 
 fn print_refusal(rt: &impl Print, refusal: Refusal) -> anyhow::Result<()> {
     println!(rt;
@@ -30,29 +29,27 @@ fn print_name(rt: &impl Print, number: u64, name: Name) -> anyhow::Result<()> {
 fn print_names(rt: &impl Print, template: Template, count: u64) -> anyhow::Result<()> {
     let mut generator = Generator::new(ByLetter::of(&template), template);
     for _ in 0..count {
-        match draw_name(&mut generator) {
-            Some(drawn) => print_name(rt, drawn.0, drawn.1)?,
-            None => break,
-        }
+        let Some((number, name)) = draw_name(&mut generator) else {
+            break;
+        };
+        print_name(rt, number, name)?;
     }
     let left = generator.left();
     println!(rt; "left: {left}")?;
     Ok(())
 }
 
+fn count_of(line: Option<&[u8]>) -> anyhow::Result<u64> {
+    let line = line.ok_or_else(|| anyhow!("the second line, a count, is missing"))?;
+    Ok(std::str::from_utf8(line)?.parse::<u64>()?)
+}
+
 fn print_draws(rt: &impl Print, input: &[u8]) -> anyhow::Result<()> {
-    let end = piece_end(input, 0, b'\n');
-    let template = match Template::read(&input[0..end]) {
-        Ok(template) => template,
-        Err(fault) => return print_refusal(rt, fault.into()),
-    };
-    if end >= input.len() {
-        return Err(anyhow!("the second line, a count, is missing"));
+    let mut lines = input.split(|b| *b == b'\n');
+    match Template::read(lines.next().unwrap_or(&[])) {
+        Ok(template) => print_names(rt, template, count_of(lines.next())?),
+        Err(fault) => print_refusal(rt, fault.into()),
     }
-    let from = end + 1;
-    let to = piece_end(input, from, b'\n');
-    let count = std::str::from_utf8(&input[from..to])?.parse::<u64>()?;
-    print_names(rt, template, count)
 }
 
 fn run(rt: &HostRuntime) -> anyhow::Result<()> {

@@ -1,4 +1,4 @@
-// What the examples on a register of their own begin with: a template, and a record of a log that holds nothing.
+// What the examples begin with: templates, and a record of a log that holds nothing.
 use anyhow::anyhow;
 use logs::entry::Entry;
 use machine::text::Text;
@@ -13,9 +13,12 @@ pub(crate) const NO_TEXT: Entry<TextKey, Text> = Entry::Dropped(TextKey {
     element: Element::Who,
 });
 
+pub(crate) fn template_of(text: &str) -> anyhow::Result<Template> {
+    let template = Template::read(text.as_bytes()).map_err(|_| anyhow!("the template is none"))?;
+    Ok(template)
+}
+
+// The template of the examples on a register of their own.
 pub(crate) fn template() -> anyhow::Result<Template> {
-    match Template::read(b"99999/q7.sdk") {
-        Ok(template) => Ok(template),
-        Err(_) => Err(anyhow!("the template is none")),
-    }
+    template_of("99999/q7.sdk")
 }

@@ -4,50 +4,25 @@ use crate::tally::Tally;
 use chains::format::format;
 use chains::node::Node;
 use logs::check_length;
-use logs::entry::Entry;
 use names::fault::Refusal;
+use std::alloc::{AllocError, Global};
 use stores::tally::TallyKey;
 
-fn chain_refusal(rt: &HostRuntime, records: usize) -> anyhow::Result<Option<Refusal>> {
+fn chain_refusal(heap: Global, records: usize) -> Result<Option<Refusal>, AllocError> {
     let key = TallyKey { number: 0 };
-    let mut nodes = vec![in rt.alloc(); Node {
+    let mut nodes = vec![in heap; Node {
         key,
         value: 0u64,
         next: 0
     }; records]?;
-    match format(nodes.as_mut_slice()) {
-        Ok(_) => Ok(None),
-        Err(fault) => Ok(Some(fault.into())),
-    }
+    Ok(format(nodes.as_mut_slice()).err().map(Refusal::from))
 }
 
-fn log_refusal(entries: &[Entry<TallyKey, u64>]) -> Option<Refusal> {
-    match check_length(entries) {
-        Ok(_) => None,
-        Err(fault) => Some(fault.into()),
-    }
-}
-
-pub(crate) fn try_lengths(rt: &HostRuntime, tally: &mut Tally) -> anyhow::Result<()> {
-    tally.refusal(
-        rt,
-        "25, a chain table of 17 records",
-        chain_refusal(rt, 17)?,
-        25,
-        0,
-    )?;
-    tally.refusal(
-        rt,
-        "25, a chain table of 65,537 records",
-        chain_refusal(rt, 65_537)?,
-        25,
-        0,
-    )?;
-    tally.refusal(
-        rt,
-        "25, a log of one record",
-        log_refusal(&[NO_TALLY]),
-        25,
-        0,
-    )
+pub(crate) fn try_lengths(tally: &mut Tally<'_>) -> anyhow::Result<()> {
+    let came = chain_refusal(tally.heap(), 17)?;
+    tally.refusal("25, a chain table of 17 records", came, 25, 0)?;
+    let came = chain_refusal(tally.heap(), 65_537)?;
+    tally.refusal("25, a chain table of 65,537 records", came, 25, 0)?;
+    let came = check_length(&[NO_TALLY]).err().map(Refusal::from);
+    tally.refusal("25, a log of one record", came, 25, 0)
 }

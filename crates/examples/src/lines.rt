@@ -7,29 +7,21 @@ pub(crate) fn answer(heap: Global, input: &str) -> Result<Vec<u8>, AllocError> {
 }
 
 pub(crate) fn text_of(bytes: &[u8]) -> &str {
-    match std::str::from_utf8(bytes) {
-        Ok(text) => text,
-        Err(_) => "(no text)",
-    }
+    std::str::from_utf8(bytes).unwrap_or("(no text)")
 }
 
 // The first report line that begins with a word, if there is one.
 pub(crate) fn first_line<'a>(reports: &'a str, word: &str) -> &'a str {
-    for line in reports.lines() {
-        if line.starts_with(word) {
-            return line;
-        }
-    }
-    "(none)"
+    reports
+        .lines()
+        .find(|line| line.starts_with(word))
+        .unwrap_or("(none)")
 }
 
 // How many report lines begin with a word.
-pub(crate) fn count_lines(reports: &str, word: &str) -> u64 {
-    let mut count: u64 = 0;
-    for line in reports.lines() {
-        if line.starts_with(word) {
-            count = count.saturating_add(1);
-        }
-    }
-    count
+pub(crate) fn count_lines(reports: &str, word: &str) -> usize {
+    reports
+        .lines()
+        .filter(|line| line.starts_with(word))
+        .count()
 }

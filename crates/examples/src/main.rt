@@ -17,16 +17,16 @@ mod worked;
 use tally::Tally;
 
 fn run(rt: &HostRuntime) -> anyhow::Result<()> {
-    let mut tally = Tally::new();
-    worked::try_session(rt, &mut tally)?;
-    places::try_places(rt, &mut tally)?;
-    published::try_names(rt, &mut tally)?;
-    refusals::try_lines(rt, &mut tally)?;
-    rolls::try_rolls(rt, &mut tally)?;
-    lengths::try_lengths(rt, &mut tally)?;
-    room::try_room(rt, &mut tally)?;
-    slips::try_slips(rt, &mut tally)?;
-    tally.print(rt)
+    let mut tally = Tally::new(rt);
+    worked::try_worked(&mut tally)?;
+    places::try_places(&mut tally)?;
+    published::try_names(&mut tally)?;
+    refusals::try_lines(&mut tally)?;
+    rolls::try_rolls(&mut tally)?;
+    lengths::try_lengths(&mut tally)?;
+    room::try_room(&mut tally)?;
+    slips::try_slips(&mut tally)?;
+    tally.print()
 }
 
 fn main(rt: HostRuntime) -> anyhow::Result<()> {

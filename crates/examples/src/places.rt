@@ -1,87 +1,123 @@
 // The 64 places for holds, the 64 for names taken back, and the 512 texts: the last of each is taken, and one more is refused.
+use crate::beginnings::template_of;
 use crate::lines::{answer, count_lines, first_line, text_of};
 use crate::tally::Tally;
-use anyhow::anyhow;
 use names::template::Template;
-use std::alloc::{AllocError, Global};
-
-const OPENING: &str = "template 99999/q7.see\n";
+use std::alloc::AllocError;
 
 // A line for each of the first so many names: the words before the name, and those after it.
-fn add_lines(
-    input: &mut String,
-    template: &Template,
+struct Lines {
     names: u64,
-    before: &str,
-    after: &str,
-) -> Result<(), AllocError> {
-    for n in 0..names {
-        input.push_str(before)?;
-        input.push_str(text_of(template.name(n).as_slice()))?;
-        input.push_str(after)?;
-        input.push_str("\n")?;
+    before: &'static str,
+    after: &'static str,
+}
+
+// The lines that fill all places and ask for one more: what stands before them; the report of a place taken, with how many should be;
+// and the refusal of the last.
+struct Filling {
+    opening: &'static str,
+    lines: &'static [Lines],
+    what: &'static str,
+    taken: &'static str,
+    places: usize,
+    one_more: &'static str,
+    refusal: &'static str,
+}
+
+const FILLINGS: [Filling; 3] = [
+    Filling {
+        opening: "template 99999/q7.see\n",
+        lines: &[Lines {
+            names: 65,
+            before: "hold set ",
+            after: "",
+        }],
+        what: "65 holds, taken",
+        taken: "held ",
+        places: 64,
+        one_more: "12, the 65th hold",
+        refusal: "refused 66 12 0",
+    },
+    Filling {
+        opening: "template 99999/q7.see\nmint 65\n",
+        lines: &[Lines {
+            names: 65,
+            before: "queue now ",
+            after: "",
+        }],
+        what: "65 queuings, taken",
+        taken: "queued ",
+        places: 64,
+        one_more: "16, the 65th queuing",
+        refusal: "refused 67 16 0",
+    },
+    Filling {
+        opening: "template 99999/q7.see\nmint 100\nmint 29\n",
+        lines: &[
+            Lines {
+                names: 128,
+                before: "bind set ",
+                after: " who x",
+            },
+            Lines {
+                names: 128,
+                before: "bind set ",
+                after: " what x",
+            },
+            Lines {
+                names: 128,
+                before: "bind set ",
+                after: " when x",
+            },
+            Lines {
+                names: 129,
+                before: "bind set ",
+                after: " where x",
+            },
+        ],
+        what: "513 texts, bound",
+        taken: "bound ",
+        places: 512,
+        one_more: "24, the 513th text",
+        refusal: "refused 516 24 0",
+    },
+];
+
+fn add_lines(input: &mut String, template: &Template, lines: &Lines) -> Result<(), AllocError> {
+    for n in 0..lines.names {
+        let name = template.name(n);
+        writeln!(input, "{}{name}{}", lines.before, lines.after)?;
     }
     Ok(())
 }
 
-fn opening(heap: Global) -> Result<String, AllocError> {
-    String::from_str(heap, OPENING)
-}
-
-fn try_holds(rt: &HostRuntime, template: &Template, tally: &mut Tally) -> anyhow::Result<()> {
-    let mut input = opening(rt.alloc())?;
-    add_lines(&mut input, template, 65, "hold set ", "")?;
-    let reports = answer(rt.alloc(), input.as_str())?;
-    let came = text_of(reports.as_slice());
-    tally.number(rt, "65 holds, taken", count_lines(came, "held "), 64)?;
-    tally.text(
-        rt,
-        "12, the 65th hold",
-        first_line(came, "refused "),
-        "refused 66 12 0",
-    )
-}
-
-fn try_queuings(rt: &HostRuntime, template: &Template, tally: &mut Tally) -> anyhow::Result<()> {
-    let mut input = opening(rt.alloc())?;
-    input.push_str("mint 65\n")?;
-    add_lines(&mut input, template, 65, "queue now ", "")?;
-    let reports = answer(rt.alloc(), input.as_str())?;
-    let came = text_of(reports.as_slice());
-    tally.number(rt, "65 queuings, taken", count_lines(came, "queued "), 64)?;
-    tally.text(
-        rt,
-        "16, the 65th queuing",
-        first_line(came, "refused "),
-        "refused 67 16 0",
-    )
-}
-
-fn try_texts(rt: &HostRuntime, template: &Template, tally: &mut Tally) -> anyhow::Result<()> {
-    let mut input = opening(rt.alloc())?;
-    input.push_str("mint 100\nmint 29\n")?;
-    add_lines(&mut input, template, 128, "bind set ", " who x")?;
-    add_lines(&mut input, template, 128, "bind set ", " what x")?;
-    add_lines(&mut input, template, 128, "bind set ", " when x")?;
-    add_lines(&mut input, template, 129, "bind set ", " where x")?;
-    let reports = answer(rt.alloc(), input.as_str())?;
-    let came = text_of(reports.as_slice());
-    tally.number(rt, "513 texts, bound", count_lines(came, "bound "), 512)?;
-    tally.text(
-        rt,
-        "24, the 513th text",
-        first_line(came, "refused "),
-        "refused 516 24 0",
-    )
-}
-
-pub(crate) fn try_places(rt: &HostRuntime, tally: &mut Tally) -> anyhow::Result<()> {
-    match Template::read(b"99999/q7.see") {
-        Ok(template) => {
-            try_holds(rt, &template, tally)?;
-            try_queuings(rt, &template, tally)?;
-            try_texts(rt, &template, tally)
-        }
-        Err(_) => Err(anyhow!("the template is none")),
+fn try_filling(
+    tally: &mut Tally<'_>,
+    template: &Template,
+    filling: &Filling,
+) -> anyhow::Result<()> {
+    let mut input = String::from_str(tally.heap(), filling.opening)?;
+    for lines in filling.lines {
+        add_lines(&mut input, template, lines)?;
     }
+    let reports = answer(tally.heap(), input.as_str())?;
+    let came = text_of(reports.as_slice());
+    tally.compare(
+        filling.what,
+        count_lines(came, filling.taken),
+        filling.places,
+    )?;
+    tally.text(
+        filling.one_more,
+        first_line(came, "refused "),
+        filling.refusal,
+    )
+}
+
+pub(crate) fn try_places(tally: &mut Tally<'_>) -> anyhow::Result<()> {
+    let template = template_of("99999/q7.see")?;
+    for filling in &FILLINGS {
+        try_filling(tally, &template, filling)?;
+    }
+    Ok(())
 }

@@ -134,35 +134,20 @@ fn end_refusal(out: &mut [u8]) -> Option<Refusal> {
     }
 }
 
-pub(crate) fn try_room(rt: &HostRuntime, tally: &mut Tally) -> anyhow::Result<()> {
+pub(crate) fn try_room(tally: &mut Tally<'_>) -> anyhow::Result<()> {
     let mut wide = [0u8; 4096];
     let mut short = [0u8; 4095];
     let (roll, _) = Roll::new(template()?, &[3, 1]);
     let mut records = [NO_TEXT; 2];
-    let mut register = Register::new(rt.alloc(), roll, Log::over(&mut records))?;
-    tally.refusal(
-        rt,
-        "28, an opening line 65,536",
-        opening_refusal(65_535, &mut wide),
-        28,
-        0,
-    )?;
+    let mut register = Register::new(tally.heap(), roll, Log::over(&mut records))?;
+    let came = opening_refusal(65_535, &mut wide);
+    tally.refusal("28, an opening line 65,536", came, 28, 0)?;
     let came = line_refusal(&mut register, 65_534, &mut wide);
-    tally.refusal(rt, "28, a command line 65,536", came, 28, 0)?;
-    tally.refusal(
-        rt,
-        "29, an opening with 4,095 bytes free",
-        opening_refusal(0, &mut short),
-        29,
-        0,
-    )?;
+    tally.refusal("28, a command line 65,536", came, 28, 0)?;
+    let came = opening_refusal(0, &mut short);
+    tally.refusal("29, an opening with 4,095 bytes free", came, 29, 0)?;
     let came = line_refusal(&mut register, 0, &mut short);
-    tally.refusal(rt, "29, a line with 4,095 bytes free", came, 29, 0)?;
-    tally.refusal(
-        rt,
-        "29, an end with 4,095 bytes free",
-        end_refusal(&mut short),
-        29,
-        0,
-    )
+    tally.refusal("29, a line with 4,095 bytes free", came, 29, 0)?;
+    let came = end_refusal(&mut short);
+    tally.refusal("29, an end with 4,095 bytes free", came, 29, 0)
 }

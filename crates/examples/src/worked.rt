@@ -26,16 +26,22 @@ tally 8 1
 minted 5
 ";
 
-pub(crate) fn try_session(rt: &HostRuntime, tally: &mut Tally) -> anyhow::Result<()> {
-    let reports = answer(rt.alloc(), INPUT)?;
+// A session's reports, line by line, and how many bytes they have.
+pub(crate) fn try_session(
+    tally: &mut Tally<'_>,
+    what: &str,
+    input: &str,
+    should: &str,
+) -> anyhow::Result<()> {
+    let reports = answer(tally.heap(), input)?;
     let came = text_of(reports.as_slice());
-    for (line, should) in came.lines().zip(REPORTS.lines()) {
-        tally.text(rt, "worked session", line, should)?;
+    for (line, should) in came.lines().zip(should.lines()) {
+        tally.text(what, line, should)?;
     }
-    tally.number(
-        rt,
-        "worked session, bytes",
-        came.len() as u64,
-        REPORTS.len() as u64,
-    )
+    let bytes = format!(in tally.heap(); "{what}, bytes")?;
+    tally.compare(bytes.as_str(), came.len(), should.len())
+}
+
+pub(crate) fn try_worked(tally: &mut Tally<'_>) -> anyhow::Result<()> {
+    try_session(tally, "worked session", INPUT, REPORTS)
 }

@@ -15,9 +15,6 @@ impl Dice {
             .state
             .wrapping_mul(6_364_136_223_846_793_005)
             .wrapping_add(1_442_695_040_888_963_407);
-        if sides == 0 {
-            return 0;
-        }
-        (self.state >> 33) % sides
+        (self.state >> 33).checked_rem(sides).unwrap_or(0)
     }
 }

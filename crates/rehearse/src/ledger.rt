@@ -1,10 +1,12 @@
 // An account of a run kept apart from the register: what its answers say of each number.
+use crate::kind::Kind;
+use crate::level::Level;
 use machine::call::{Answer, Call};
 use names::fault::Refusal;
 use std::alloc::{AllocError, Global};
 use std::collections::BTreeMap;
 
-// A number's turns. At first it waits, and is not held.
+// A number's turns: how often it was minted and queued, whether it waits for its next turn, and whether it is on hold.
 #[derive(Clone, Copy)]
 struct Turns {
     minted: u64,
@@ -20,30 +22,28 @@ const NEW: Turns = Turns {
     held: false,
 };
 
-pub(crate) const KINDS: [&str; 7] = ["mint", "hold", "release", "queue", "tick", "bind", "purge"];
-
-fn kind(call: &Call<'_>) -> usize {
-    match call {
-        Call::Mint => 0,
-        Call::Hold(_) => 1,
-        Call::Release(_) => 2,
-        Call::Queue(_, _) => 3,
-        Call::Tick(_) => 4,
-        Call::Bind(_, _, _) => 5,
-        Call::Purge(_, _) => 6,
+impl Turns {
+    // Whether it was minted as often as it got its turn: once at first, and once for each accepted queuing, less one if it waits.
+    fn agree(&self) -> bool {
+        self.minted.saturating_add(u64::from(self.waits)) == self.queued.saturating_add(1)
     }
 }
 
+// How many calls of a kind were asked, and how many of them accepted.
+#[derive(Clone, Copy, Default)]
+pub(crate) struct Counts {
+    pub(crate) asked: u64,
+    pub(crate) accepted: u64,
+}
+
+// `agrees` says whether each answer so far was one that its number could get then.
 #[derive(Drop)]
 pub(crate) struct Ledger {
     turns: BTreeMap<u64, Turns>,
+    counts: BTreeMap<Kind, Counts>,
     pub(crate) refused: BTreeMap<u8, u64>,
-    pub(crate) asked: [u64; 7],
-    pub(crate) accepted: [u64; 7],
-    held: u64,
-    queued: u64,
-    pub(crate) most_held: u64,
-    pub(crate) most_queued: u64,
+    pub(crate) held: Level,
+    pub(crate) queued: Level,
     agrees: bool,
 }
 
@@ -51,115 +51,92 @@ impl Ledger {
     pub(crate) fn new(heap: Global) -> Ledger {
         Ledger {
             turns: BTreeMap::new(heap),
+            counts: BTreeMap::new(heap),
             refused: BTreeMap::new(heap),
-            asked: [0; 7],
-            accepted: [0; 7],
-            held: 0,
-            queued: 0,
-            most_held: 0,
-            most_queued: 0,
+            held: Level::default(),
+            queued: Level::default(),
             agrees: true,
         }
     }
 
-    fn of(&self, n: u64) -> Turns {
-        match self.turns.get(&n) {
-            Some(turns) => *turns,
-            None => NEW,
-        }
-    }
-
     // A minted name waited and was not on hold.
-    fn minted(&mut self, n: u64) -> Result<(), AllocError> {
-        let mut turns = self.of(n);
-        if !turns.waits || turns.held {
-            self.agrees = false;
-        }
+    fn mint(&mut self, n: u64) -> Result<(), AllocError> {
+        let turns = self.turns.entry(n)?.or_insert(NEW);
+        self.agrees &= turns.waits && !turns.held;
         if turns.queued > 0 {
-            self.queued = self.queued.saturating_sub(1);
+            self.queued.fall();
         }
         turns.waits = false;
         turns.minted = turns.minted.saturating_add(1);
-        self.turns.insert(n, turns)?;
         Ok(())
     }
 
-    // A queued name did not wait.
-    fn queued(&mut self, n: u64) -> Result<(), AllocError> {
-        let mut turns = self.of(n);
-        if turns.waits || turns.held {
-            self.agrees = false;
-        }
+    // A queued name did not wait and was not on hold.
+    fn queue(&mut self, n: u64) -> Result<(), AllocError> {
+        let turns = self.turns.entry(n)?.or_insert(NEW);
+        self.agrees &= !turns.waits && !turns.held;
         turns.waits = true;
         turns.queued = turns.queued.saturating_add(1);
-        self.turns.insert(n, turns)?;
-        self.queued = self.queued.saturating_add(1);
-        self.most_queued = self.most_queued.max(self.queued);
+        self.queued.rise();
         Ok(())
     }
 
-    fn held(&mut self, n: u64, held: bool) -> Result<(), AllocError> {
-        let mut turns = self.of(n);
-        if turns.held == held {
-            self.agrees = false;
-        }
-        turns.held = held;
-        self.turns.insert(n, turns)?;
-        self.held = if held {
-            self.held.saturating_add(1)
-        } else {
-            self.held.saturating_sub(1)
-        };
-        self.most_held = self.most_held.max(self.held);
+    // A held name was not on hold.
+    fn hold(&mut self, n: u64) -> Result<(), AllocError> {
+        let turns = self.turns.entry(n)?.or_insert(NEW);
+        self.agrees &= !turns.held;
+        turns.held = true;
+        self.held.rise();
+        Ok(())
+    }
+
+    // A released name was on hold.
+    fn release(&mut self, n: u64) -> Result<(), AllocError> {
+        let turns = self.turns.entry(n)?.or_insert(NEW);
+        self.agrees &= turns.held;
+        turns.held = false;
+        self.held.fall();
         Ok(())
     }
 
     fn refuse(&mut self, number: u8) -> Result<(), AllocError> {
-        let count = match self.refused.get(&number) {
-            Some(count) => *count,
-            None => 0,
-        };
-        self.refused.insert(number, count.saturating_add(1))?;
+        let count = self.refused.entry(number)?.or_insert(0);
+        *count = count.saturating_add(1);
+        Ok(())
+    }
+
+    fn count(&mut self, kind: Kind, is_accepted: bool) -> Result<(), AllocError> {
+        let counts = self.counts.entry(kind)?.or_default();
+        counts.asked = counts.asked.saturating_add(1);
+        counts.accepted = counts.accepted.saturating_add(u64::from(is_accepted));
         Ok(())
     }
 
     // One call with its answer.
     pub(crate) fn note(&mut self, call: &Call<'_>, answer: &Answer) -> Result<(), AllocError> {
-        let at = kind(call) % 7;
-        self.asked[at] = self.asked[at].saturating_add(1);
-        if let Answer::Refused(fault) = answer {
-            return self.refuse(Refusal::from(*fault).number);
-        }
-        self.accepted[at] = self.accepted[at].saturating_add(1);
+        self.count(Kind::from(call), !matches!(answer, Answer::Refused(_)))?;
         match answer {
-            Answer::Minted(n) => self.minted(*n),
-            Answer::Queued(n) => self.queued(*n),
-            Answer::Held(n) => self.held(*n, true),
-            Answer::Released(n) => self.held(*n, false),
-            _ => Ok(()),
+            Answer::Minted(n) => self.mint(*n),
+            Answer::Queued(n) => self.queue(*n),
+            Answer::Held(n) => self.hold(*n),
+            Answer::Released(n) => self.release(*n),
+            Answer::Ticked(_) | Answer::Bound(_) | Answer::Purged(_) => Ok(()),
+            Answer::Refused(fault) => self.refuse(Refusal::from(*fault).number),
         }
     }
 
-    // Whether each number was minted as often as it got its turn: once at first, and once for each accepted queuing, less one if it waits.
+    // The counts of a kind; none were asked where there are none.
+    pub(crate) fn counts(&self, kind: Kind) -> Counts {
+        self.counts.get(&kind).copied().unwrap_or_default()
+    }
+
+    // Whether each answer was one that its number could get, and each number was minted as often as it got its turn.
     pub(crate) fn agrees(&self) -> bool {
-        let mut agrees = self.agrees;
-        for turns in self.turns.values() {
-            let waits = if turns.waits { 1 } else { 0 };
-            if turns.minted.saturating_add(waits) != turns.queued.saturating_add(1) {
-                agrees = false;
-            }
-        }
-        agrees
+        self.agrees && self.turns.values().all(|turns| turns.agree())
     }
 
     // How many different names were minted.
-    pub(crate) fn names(&self) -> u64 {
-        let mut names: u64 = 0;
-        for turns in self.turns.values() {
-            if turns.minted > 0 {
-                names = names.saturating_add(1);
-            }
-        }
-        names
+    pub(crate) fn names(&self) -> usize {
+        self.turns.values().filter(|turns| turns.minted > 0).count()
     }
 }

@@ -4,33 +4,22 @@ use machine::call::Call;
 use names::name::Name;
 use stores::text::Element;
 
-// The name at an index, or a text that is none.
-fn name_at(names: &[Name], index: u64) -> &[u8] {
-    if index < names.len() as u64 {
-        names[index as usize].as_slice()
-    } else {
-        b"26141/qx70l"
-    }
-}
+const ELEMENTS: [Element; 4] = [Element::Who, Element::What, Element::When, Element::Where];
 
-// The index of a name; one time in forty that of none.
-fn name_index(dice: &mut Dice, count: u64) -> u64 {
+// The index of a name; one time in forty none.
+fn name_index(dice: &mut Dice, count: u64) -> Option<u64> {
     if dice.roll(40) == 0 {
-        count
+        None
     } else {
-        dice.roll(count)
+        Some(dice.roll(count))
     }
 }
 
-// One of the four elements, or none.
-fn element_at(index: u64) -> Option<Element> {
-    match index {
-        0 => Some(Element::Who),
-        1 => Some(Element::What),
-        2 => Some(Element::When),
-        3 => Some(Element::Where),
-        _ => None,
-    }
+// The name at an index, or a text that is none.
+fn name_at(names: &[Name], index: Option<u64>) -> &[u8] {
+    index
+        .and_then(|i| names.get(i as usize))
+        .map_or(b"26141/qx70l".as_slice(), |name| name.as_slice())
 }
 
 // Every other queuing has no delay.
@@ -41,7 +30,8 @@ fn delay(dice: &mut Dice) -> u64 {
 // The next call, at a time near the second.
 pub(crate) fn next_call<'a>(dice: &mut Dice, names: &'a [Name], second: u64) -> Call<'a> {
     let name = name_at(names, name_index(dice, names.len() as u64));
-    let element = element_at(dice.roll(5));
+    // one of the four elements, or none
+    let element = ELEMENTS.get(dice.roll(5) as usize).copied();
     match dice.roll(100) {
         0..=29 => Call::Mint,
         30..=36 => Call::Hold(name),

@@ -65,6 +65,7 @@ fn put_line(out: &mut Output<'_>, head: &[u8], fields: &[Field<'_>])
 }
 
 // The report's line from the fill on, as far as there is room.
+// No Display: words are bytes and no text, and a contract of `write!` says nothing where it fails, which a put never does.
 pub fn write_report(out: &mut Output<'_>, report: Report<'_>)
     ensures { Puts out.old (line (told report.entry)) out.new }
 {

@@ -1,14 +1,14 @@
 -- How a text's pieces begin. Assumes nothing.
-use Rattle.std.proofs.Common.{◌≡◌, ℕ, suc, ◌+◌, ◌-◌, ◌<◌, ◌≤◌, true, false, cond, eqb, ltb, not, ◌==◌, Some, None, inl, inr, List, [], ◌∷◌, length, get_or, take, drop, sym, refl, ap, ◌∙◌, arith}
-use Rattle.std.proofs.lemmas.List.{at_drop_more, at_drop_all, drop-drop, length-drop}
+use Rattle.std.proofs.Common.{◌≡◌, ℕ, suc, ◌+◌, ◌-◌, ◌<◌, ◌≤◌, true, false, cond, eqb, ltb, not, ◌==◌, Some, None, List, [], ◌∷◌, length, take, drop, sym, refl, ap, ◌∙◌, arith}
+use Rattle.std.proofs.lemmas.List.{drop-drop, length-drop}
 use Rattle.std.proofs.lemmas.List.Recursion.{is_position_or_len}
 use Rattle.std.proofs.lemmas.List.Sums.{prefix_len-le-length}
-use Rattle.std.proofs.lemmas.Bool.{cases_lt}
 use Rattle.std.proofs.lemmas.Bool.Decides.{nat_tests}
 use Rattle.std.specs.List.{position, position_or_len}
 use Rattle.std.specs.Option.{unwrap_or}
 use Rattle.texts.specs.Pieces.{upto, onto, pieces}
 
+-- one byte on
 step : (m b : ℕ) (bs : List ℕ) → length (upto m (b ∷ bs)) ≡ cond (b == m) 0 (1 + length (upto m bs))
 step m b bs = elim (b == m) as (λ v. length (cond v [] (b ∷ upto m bs)) ≡ cond v 0 (1 + length (upto m bs))) [ true ↦ refl | false ↦ omega arith ]
 
@@ -18,23 +18,10 @@ length-upto m bs = is_position_or_len (λ l. length (upto m l)) (λ b. b == m) r
 
 -- what `position` finds, or the length, is where the piece ends
 found : (p n : ℕ) → p ≤ n → unwrap_or (cond (ltb p n) (Some p) None) n ≡ p
-found p n h = elim (cases_lt p n) [
-  | inl less ↦ grind (arith, nat_tests)
-  | inr more ↦ grind (arith, nat_tests)
-]
+found p n h = grind (arith, nat_tests)
 
 pub found_upto : (m : ℕ) (bs : List ℕ) → unwrap_or (position (λ b. b == m) bs) (length bs) ≡ length (upto m bs)
 found_upto m bs = found (position_or_len (λ b. b == m) bs) (length bs) (prefix_len-le-length (λ b. not (b == m)) bs) ∙ sym (length-upto m bs)
-
--- one byte on, at the mark, and at the text's end
-pub upto_more : (m : ℕ) (bs : List ℕ) (i : ℕ) → i < length bs → eqb (get_or bs i 0) m ≡ false → upto m (drop i bs) ≡ get_or bs i 0 ∷ upto m (drop (i + 1) bs)
-upto_more m bs i h n = at_drop_more (upto m) bs i 0 h ∙ ap (λ t. cond t [] (get_or bs i 0 ∷ upto m (drop (i + 1) bs))) n
-
-pub upto_mark : (m : ℕ) (bs : List ℕ) (i : ℕ) → i < length bs → eqb (get_or bs i 0) m ≡ true → upto m (drop i bs) ≡ []
-upto_mark m bs i h n = at_drop_more (upto m) bs i 0 h ∙ ap (λ t. cond t [] (get_or bs i 0 ∷ upto m (drop (i + 1) bs))) n
-
-pub upto_all : (m : ℕ) (bs : List ℕ) (i : ℕ) → length bs ≤ i → upto m (drop i bs) ≡ []
-upto_all m bs i h = at_drop_all (upto m) bs i h
 
 -- the piece is the front of its length
 pub take_upto : (m : ℕ) (bs : List ℕ) → take (length (upto m bs)) bs ≡ upto m bs

@@ -2,12 +2,11 @@
 use commands::reading::read_command;
 use names::fault::Refusal;
 
-// The place where a line is refused, or 1,000 for one that is read.
+// The place where a line is refused, or 1,000 for one that is read. (The values of the tests stay: they compare with that number.)
 fn place(line: &[u8]) -> usize {
-    match read_command(line) {
-        Ok(_) => 1000,
-        Err(fault) => Refusal::from(fault).place,
-    }
+    read_command(line)
+        .err()
+        .map_or(1000, |fault| Refusal::from(fault).place)
 }
 
 #[test]

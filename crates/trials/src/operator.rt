@@ -28,7 +28,7 @@ impl Key for OperatorKey {
     ghost shared = { Prim.search rules };
 
     fn same(&self, other: &OperatorKey) -> bool {
-        (self.first == other.first) & ((self.second == other.second) & (self.third == other.third))
+        self == other
     }
 
     fn hash(&self) -> usize {

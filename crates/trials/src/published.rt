@@ -4,10 +4,8 @@ use names::template::Template;
 
 // Whether the last character of a name is the check character of those before it.
 fn ends_in_check(name: &[u8]) -> bool {
-    match name {
-        [] => false,
-        [front @ .., last] => check_character(front) == *last,
-    }
+    name.split_last()
+        .is_some_and(|(last, front)| check_character(front) == *last)
 }
 
 #[test]
@@ -21,13 +19,7 @@ fn published_names_end_in_their_check_character(rt: HostRuntime) {
 
 // Whether a name is read as a number under a template.
 fn reads_as(template: &[u8], name: &[u8], number: u64) -> bool {
-    match Template::read(template) {
-        Ok(template) => match template.validate(name) {
-            Ok(n) => n == number,
-            Err(_) => false,
-        },
-        Err(_) => false,
-    }
+    Template::read(template).is_ok_and(|template| template.validate(name) == Ok(number))
 }
 
 #[test]

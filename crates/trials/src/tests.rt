@@ -16,95 +16,70 @@ use stores::text::{Element, TextKey};
 // As many pairs as each store of these tests can have; fewer than there are keys.
 const ROOM: usize = 16;
 
+const ELEMENTS: [Element; 4] = [Element::Who, Element::What, Element::When, Element::Where];
+
 fn key_of(code: u64) -> TextKey {
-    let element = match code % 4 {
-        0 => Element::Who,
-        1 => Element::What,
-        2 => Element::When,
-        _ => Element::Where,
-    };
     TextKey {
         number: code / 4,
-        element,
+        element: ELEMENTS[(code % 4) as usize],
     }
 }
 
-fn put_both<S: Store<TextKey, u64>>(
-    rt: &impl Abort,
-    store: &mut S,
-    map: &mut BTreeMap<u64, u64>,
-    code: u64,
-    value: u64,
-) -> Result<(), Fail> {
-    let full = !map.contains_key(&code) && map.len() == ROOM;
-    match store.put(key_of(code), value) {
-        Ok(_) => {
-            assert!(rt; !full);
-            map.insert(code, value)?;
-            Ok(())
+// A store, and a map that takes the same calls; each call on both has its answer in both compared.
+#[derive(Drop)]
+struct Both<S> {
+    store: S,
+    map: BTreeMap<u64, u64>,
+}
+
+impl<S: Store<TextKey, u64>> Both<S> {
+    fn put(&mut self, rt: &impl Abort, code: u64, value: u64) -> Result<(), Fail> {
+        let answer = self.store.put(key_of(code), value);
+        if !self.map.contains_key(&code) && self.map.len() == ROOM {
+            assert_eq!(rt; answer, Err(StoreFault::Full));
+        } else {
+            assert_eq!(rt; answer, Ok(()));
+            self.map.insert(code, value)?;
         }
-        Err(fault) => {
-            assert_eq!(rt; fault, StoreFault::Full);
-            assert!(rt; full);
-            Ok(())
+        Ok(())
+    }
+
+    fn get(&self, rt: &impl Abort, code: u64) {
+        let mut place = 7777;
+        let found = self.store.get(&key_of(code), &mut place);
+        assert_eq!(rt; found, self.map.contains_key(&code));
+        assert_eq!(rt; place, self.map.get(&code).copied().unwrap_or(7777));
+    }
+
+    fn drop_pair(&mut self, rt: &impl Abort, code: u64) {
+        let dropped = self.store.drop_pair(&key_of(code));
+        assert_eq!(rt; dropped, self.map.remove(&code).is_some());
+    }
+
+    // A thousand calls that a fixed sequence of numbers picks; every key is looked up at the end.
+    fn thousand(&mut self, rt: &impl Abort) -> Result<(), Fail> {
+        let mut seed: u64 = 1;
+        for i in 0..1000 {
+            seed = seed
+                .wrapping_mul(6364136223846793005)
+                .wrapping_add(1442695040888963407);
+            let pick = seed >> 33;
+            let code = pick % 24;
+            match (pick / 24) % 5 {
+                0 => self.drop_pair(rt, code),
+                1 => self.get(rt, code),
+                _ => self.put(rt, code, i)?,
+            }
         }
+        self.get_all(rt);
+        Ok(())
     }
-}
 
-fn get_both<S: Store<TextKey, u64>>(
-    rt: &impl Abort,
-    store: &S,
-    map: &BTreeMap<u64, u64>,
-    code: u64,
-) -> Result<(), Fail> {
-    let mut place = 7777;
-    let found = store.get(&key_of(code), &mut place);
-    assert_eq!(rt; found, map.contains_key(&code));
-    match map.get(&code) {
-        Some(value) => {
-            assert_eq!(rt; place, *value);
-            Ok(())
-        },
-        None => {
-            assert_eq!(rt; place, 7777);
-            Ok(())
-        },
-    }
-}
-
-fn drop_both<S: Store<TextKey, u64>>(
-    rt: &impl Abort,
-    store: &mut S,
-    map: &mut BTreeMap<u64, u64>,
-    code: u64,
-) {
-    let dropped = store.drop_pair(&key_of(code));
-    assert_eq!(rt; dropped, map.remove(&code).is_some());
-}
-
-// A thousand calls that a fixed sequence of numbers picks; every key is looked up at the end.
-fn thousand<S: Store<TextKey, u64>>(
-    rt: &impl Abort,
-    store: &mut S,
-    map: &mut BTreeMap<u64, u64>,
-) -> Result<(), Fail> {
-    let mut seed: u64 = 1;
-    for i in 0..1000 {
-        seed = seed
-            .wrapping_mul(6364136223846793005)
-            .wrapping_add(1442695040888963407);
-        let pick = seed >> 33;
-        let code = pick % 24;
-        match (pick / 24) % 5 {
-            0 => drop_both(rt, store, map, code),
-            1 => get_both(rt, store, map, code)?,
-            _ => put_both(rt, store, map, code, i)?,
+    fn get_all(&self, rt: &impl Abort) {
+        for code in 0..24 {
+            self.get(rt, code);
         }
     }
-    for code in 0..24 {
-        get_both(rt, store, map, code)?;
-    }
-    Ok(())
 }
 
 #[test]
@@ -115,18 +90,22 @@ fn chain_answers_as_a_map(rt: HostRuntime) -> Result<(), Fail> {
         next: 0,
     }; 33];
     format(&mut nodes)?;
-    let mut chain = Chain::over(&mut nodes);
-    let mut map = BTreeMap::new(rt.alloc());
-    thousand(&rt, &mut chain, &mut map)
+    let mut both = Both {
+        store: Chain::over(&mut nodes),
+        map: BTreeMap::new(rt.alloc()),
+    };
+    both.thousand(&rt)
 }
 
 #[test]
 fn log_answers_as_a_map(rt: HostRuntime) -> Result<(), Fail> {
     let mut entries = [Entry::Dropped(key_of(0)); 17];
     check_length(&entries)?;
-    let mut log = Log::over(&mut entries);
-    let mut map = BTreeMap::new(rt.alloc());
-    thousand(&rt, &mut log, &mut map)
+    let mut both = Both {
+        store: Log::over(&mut entries),
+        map: BTreeMap::new(rt.alloc()),
+    };
+    both.thousand(&rt)
 }
 
 fn operator(first: u8, second: u8, third: u8) -> OperatorKey {
