@@ -1,13 +1,11 @@
 // The refusals of a session that has had all its lines, or that finds too few bytes free for its output.
-ghost use Rattle.std.specs.Prelude.{◌≤◌, length};
-
 use crate::beginnings::{NO_TALLY, NO_TEXT, template};
 use crate::tally::Tally;
 use logs::Log;
 use machine::text::Text;
 use minter::register::Register;
 use names::fault::Refusal;
-use sessions::end::{Closed, StillOpen};
+use sessions::end::StillOpen;
 use sessions::line::Reply;
 use sessions::opening::{Entered, TurnedAway};
 use sessions::session::{NewSession, OpenSession};
@@ -16,43 +14,35 @@ use sources::source::Source;
 use stores::store::Store;
 use stores::tally::TallyKey;
 use stores::text::TextKey;
+use texts::output::Output;
+
+const OPENING: &[u8] = b"template 99999/q7.sdk";
 
 // Ends a session that finds room for it, and lets it go.
-fn finish<U: Store<TallyKey, u64>>(session: OpenSession, tallies: &U, out: &mut [u8])
-    requires sound { U.Store.sound tallies.now }
-    requires room { 4096 ≤ length out.old }
+fn finish<U: Store<TallyKey, u64>>(session: OpenSession, tallies: &U)
+    requires { U.Store.sound tallies.now }
 {
-    match session.end(tallies, out, 0) {
-        Ok(closed) => {
-            let Closed { session, fill: _ } = closed;
-            session.close();
-        }
-        Err(_) => unreachable(),
-    }
+    let mut wide = [0u8; 4096];
+    let ended = session
+        .end(tallies, &mut Output::over(&mut wide))
+        .unwrap();
+    ended.close();
 }
 
 // Why an opening line is refused, if it is.
 fn opening_refusal(lines: u64, out: &mut [u8]) -> Option<Refusal> {
     let mut entries = [NO_TALLY; 2];
     let mut tallies = Log::over(&mut entries);
-    let mut wide = [0u8; 4096];
     let session = NewSession { lines };
-    match session.opening(&mut tallies, b"template 99999/q7.sdk", out, 0) {
-        Ok(entered) => {
-            let Entered {
-                session,
-                template: _,
-                fill: _,
-            } = entered;
-            finish(session, &tallies, &mut wide);
+    match session.opening(&mut tallies, OPENING, &mut Output::over(out)) {
+        Ok(Entered {
+            session,
+            template: _,
+        }) => {
+            finish(session, &tallies);
             None
         }
-        Err(away) => {
-            let TurnedAway {
-                session,
-                fill: _,
-                fault,
-            } = away;
+        Err(TurnedAway { session, fault }) => {
             session.leave();
             Some(fault.into())
         }
@@ -60,29 +50,17 @@ fn opening_refusal(lines: u64, out: &mut [u8]) -> Option<Refusal> {
 }
 
 // An open session that has counted so many lines and one.
-fn open_after<U: Store<TallyKey, u64>>(
-    lines: u64,
-    tallies: &mut U,
-    out: &mut [u8],
-) -> Option<OpenSession>
+fn open_after<U: Store<TallyKey, u64>>(lines: u64, tallies: &mut U) -> Option<OpenSession>
     ensures { U.Store.sound tallies.old → U.Store.sound tallies.new }
 {
+    let mut wide = [0u8; 4096];
     let session = NewSession { lines };
-    match session.opening(tallies, b"template 99999/q7.sdk", out, 0) {
-        Ok(entered) => {
-            let Entered {
-                session,
-                template: _,
-                fill: _,
-            } = entered;
-            Some(session)
-        }
-        Err(away) => {
-            let TurnedAway {
-                session,
-                fill: _,
-                fault: _,
-            } = away;
+    match session.opening(tallies, OPENING, &mut Output::over(&mut wide)) {
+        Ok(Entered {
+            session,
+            template: _,
+        }) => Some(session),
+        Err(TurnedAway { session, fault: _ }) => {
             session.leave();
             None
         }
@@ -97,40 +75,31 @@ fn line_refusal<S: Source, T: Store<TextKey, Text>>(
 ) -> Option<Refusal> {
     let mut entries = [NO_TALLY; 2];
     let mut tallies = Log::over(&mut entries);
-    let mut wide = [0u8; 4096];
-    match open_after(lines, &mut tallies, &mut wide) {
-        Some(session) => {
-            let Reply {
-                session,
-                fill: _,
-                fault,
-            } = session.line(register, &mut tallies, b"mint 1", out, 0);
-            finish(session, &tallies, &mut wide);
-            fault.map(Refusal::from)
-        }
-        None => None,
-    }
+    let session = open_after(lines, &mut tallies)?;
+    let Reply { session, fault } = session.line(
+        register,
+        &mut tallies,
+        b"mint 1",
+        &mut Output::over(out),
+    );
+    finish(session, &tallies);
+    fault.map(Refusal::from)
 }
 
 // Why the end of a session is refused, if it is.
 fn end_refusal(out: &mut [u8]) -> Option<Refusal> {
     let mut entries = [NO_TALLY; 2];
     let mut tallies = Log::over(&mut entries);
-    let mut wide = [0u8; 4096];
-    match open_after(0, &mut tallies, &mut wide) {
-        Some(session) => match session.end(&tallies, out, 0) {
-            Ok(closed) => {
-                let Closed { session, fill: _ } = closed;
-                session.close();
-                None
-            }
-            Err(still) => {
-                let StillOpen { session, fault } = still;
-                finish(session, &tallies, &mut wide);
-                Some(fault.into())
-            }
-        },
-        None => None,
+    let session = open_after(0, &mut tallies)?;
+    match session.end(&tallies, &mut Output::over(out)) {
+        Ok(ended) => {
+            ended.close();
+            None
+        }
+        Err(StillOpen { session, fault }) => {
+            finish(session, &tallies);
+            Some(fault.into())
+        }
     }
 }
 

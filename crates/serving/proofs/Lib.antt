@@ -1,4 +1,3 @@
 pub mod Answering
 pub mod Awaiting
 pub mod Rules
-pub mod Served

@@ -1,16 +1,22 @@
--- Finds: of the code, the first lines of an input came to this; what room they leave
-use Rattle.std.specs.Prelude.{◌≡◌, ℕ, ◌+◌, ◌*◌, ◌<◌, ◌≤◌, List, length, drop, Some, None}
+-- Opens: of the code, the first lines of an input opened a session, with this template and with these lines left; what room they leave
+-- Finds: of the code, the first lines of an input opened a session, or none of them did
+use Rattle.std.specs.Prelude.{◌≡◌, ℕ, ◌+◌, ◌*◌, ◌<◌, ◌≤◌, List, length, Some, None, Ok, Err, Result}
 use Rattle.names.specs.Templates.{form}
 use Rattle.sessions.specs.Tallies.{Tallies}
-use Rattle.texts.specs.Output.{Wrote}
-use Rattle.texts.specs.Pieces.{pieces}
+use Rattle.sessions.specs.declared.opening.Entered.{Entered}
+use Rattle.sessions.specs.declared.session.NewSession.{NewSession}
+use Rattle.texts.specs.Output.{Puts}
+use Rattle.texts.specs.declared.output.Output.{Output}
 use Rattle.serving.specs.Serving.{Awaited}
-use Rattle.serving.specs.declared.opening.Found.{Found}
-use Rattle.serving.specs.declared.opening.Found.TheVariants.{Opening, Never}
 
-abbrev pub Finds : Awaited → Tallies → List ℕ → List ℕ → List ℕ → Found → Type 0
-Finds a after input out written (Opening e from) =
-    (a.form ≡ Some (form e.template)) × (a.desk ≡ record { tallies = after; lines = e.session.lines }) × (e.session.minted ≡ 0)
-    × (a.rest ≡ pieces 10 (drop from input)) × Wrote out 0 a.text written e.fill
-    × (from ≤ length input + 1) × (e.fill + 4096 * (length (pieces 10 (drop from input)) + 1) ≤ length written)
-Finds a after input out written (Never s fill) = (a.form ≡ None) × Wrote out 0 a.text written fill × (fill < length written)
+pub record Opens (a : Awaited) (after : Tallies) (old new : Output) (e : Entered) (lines : List (List ℕ)) : Type 0 where
+  pub form : a.form ≡ Some (form e.template)
+  pub desk : a.desk ≡ record { tallies = after; lines = e.session.lines }
+  pub minted : e.session.minted ≡ 0
+  pub rest : a.rest ≡ lines
+  pub text : Puts old a.text new
+  pub room : new.fill + 4096 * (length lines + 1) ≤ length new.bytes.now
+
+abbrev pub Finds : Awaited → Tallies → Output → Output → Result (Entered × List (List ℕ)) NewSession → Type 0
+Finds a after old new (Ok found) = Opens a after old new found.0 found.1
+Finds a after old new (Err s) = (a.form ≡ None) × Puts old a.text new × (new.fill < length new.bytes.now)

@@ -1,7 +1,6 @@
 // Whole inputs answered: the call that the program makes.
 #![tactic(auto)]
 
-mod count;
 mod lines;
 pub mod memory;
 mod opening;

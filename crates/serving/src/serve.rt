@@ -1,23 +1,21 @@
 // A whole input answered: what the program calls.
-ghost use Rattle.std.specs.Prelude.{◌≡◌, ◌+◌, ◌*◌, ◌<◌, ◌≤◌, true, [], length, drop, is_ok, IfOk, OnOk};
+ghost use Rattle.std.specs.Prelude.{◌≡◌, ◌+◌, ◌*◌, ◌<◌, ◌≤◌, true, [], length, is_ok, IfOk, OnOk};
 ghost use Rattle.names.specs.Templates.{form};
 ghost use Rattle.sessions.specs.Opening.{new_desk};
-ghost use Rattle.texts.specs.Output.{Wrote};
+ghost use Rattle.texts.specs.Output.{Puts};
 ghost use Rattle.texts.specs.Pieces.{pieces};
 ghost use Rattle.serving.specs.Ruling.{Ruled, RuledBy, RuledInput};
-ghost use Rattle.serving.specs.Serving.{awaited, open_desk, open_text, session_text, unread, report, served_answer, served_buffer};
+ghost use Rattle.serving.specs.Serving.{awaited, open_desk, open_text, session_text, unread, report, needed, served_answer, served_buffer};
 
-use crate::count::count_lines;
-use crate::lines::{Heard, answer_lines};
+use crate::lines::answer_lines;
 use crate::memory::Memory;
-use crate::opening::{Found, find_opening};
+use crate::opening::find_opening;
 use chains::Chain;
 use chains::format::format;
 use commands::fault::CommandFault;
 use logs::Log;
 use machine::text::Text;
 use minter::register::{Register, Room};
-use sessions::end::Closed;
 use sessions::line::{FREE, write_fault};
 use sessions::opening::Entered;
 use sources::chooser::ByLetter;
@@ -26,48 +24,37 @@ use std::alloc::{AllocError, Global};
 use stores::store::Store;
 use stores::tally::TallyKey;
 use stores::text::TextKey;
+use texts::output::Output;
+use texts::pieces::Pieces;
 
 // The most bytes that an input may have.
 const LONGEST: usize = 32_768;
 
-// The session that an opening line opened: the other lines of the input, and the end. The answer is the fill after its reports.
+// The session that an opening line opened: the lines that are left, and the end.
 fn serve_open<T: Store<TextKey, Text> + Drop, U: Store<TallyKey, u64>>(
     room: Room,
     texts: T,
     tallies: &mut U,
     entered: Entered,
-    input: &[u8],
-    from: usize,
-    out: &mut [u8],
-) -> usize
+    lines: Pieces<'_>,
+    out: &mut Output<'_>,
+)
     requires store { T.Store.sound texts }
     requires empty { T.Store.pairs texts ≡ [] }
     requires places { T.Store.capacity texts ≡ 512 }
     requires tallies { U.Store.sound tallies.old }
     requires fresh { entered.session.minted ≡ 0 }
-    requires within { from ≤ length input.now + 1 }
-    requires room { entered.fill + 4096 * (length (pieces 10 (drop from input.now)) + 1) ≤ length out.old }
-    ensures text { Wrote out.old entered.fill (open_text (open_desk (new_desk U.Store.pairs U.Store.capacity tallies.old entered.session.lines) (form entered.template)) (pieces 10 (drop from input.now))) out.new result }
-    ensures whole { result < length out.new }
-    ensures ruled { Ruled (new_desk U.Store.pairs U.Store.capacity tallies.old entered.session.lines) (form entered.template) (pieces 10 (drop from input.now)) }
+    requires room { out.old.fill + 4096 * (length lines + 1) ≤ length out.old.bytes.now }
+    ensures text { Puts out.old (open_text (open_desk (new_desk U.Store.pairs U.Store.capacity tallies.old entered.session.lines) (form entered.template)) lines.entry) out.new }
+    ensures whole { out.new.fill < length out.new.bytes.now }
+    ensures ruled { Ruled (new_desk U.Store.pairs U.Store.capacity tallies.old entered.session.lines) (form entered.template) lines.entry }
 {
-    let Entered {
-        session,
-        template,
-        fill,
-    } = entered;
+    let Entered { session, template } = entered;
     let source = Generator::new(ByLetter::of(&template), template);
     let mut register = Register::open(room, source, texts);
-    let heard = answer_lines(session, &mut register, tallies, input, from, out, fill);
-    let Heard { session, fill } = heard;
-    match session.end(tallies, out, fill) {
-        Ok(closed) => {
-            let Closed { session, fill } = closed;
-            session.close();
-            fill
-        }
-        Err(_) => unreachable(),
-    }
+    let session = answer_lines(session, &mut register, tallies, lines, out);
+    let ended = session.end(tallies, out).unwrap();
+    ended.close();
 }
 
 // A session over a store for texts and one for tallies, both with no pair.
@@ -76,33 +63,30 @@ fn serve_session<T: Store<TextKey, Text> + Drop, U: Store<TallyKey, u64>>(
     texts: T,
     tallies: &mut U,
     input: &[u8],
-    out: &mut [u8],
-) -> usize
+    out: &mut Output<'_>,
+)
     requires store { T.Store.sound texts }
     requires empty { T.Store.pairs texts ≡ [] }
     requires places { T.Store.capacity texts ≡ 512 }
     requires tallies { U.Store.sound tallies.old }
-    requires room { 4096 * (length (pieces 10 input.now) + 1) ≤ length out.old }
-    ensures text { Wrote out.old 0 (session_text (new_desk U.Store.pairs U.Store.capacity tallies.old 0) (pieces 10 input.now)) out.new result }
-    ensures whole { result < length out.new }
+    requires room { out.old.fill + 4096 * (length (pieces 10 input.now) + 1) ≤ length out.old.bytes.now }
+    ensures text { Puts out.old (session_text (new_desk U.Store.pairs U.Store.capacity tallies.old 0) (pieces 10 input.now)) out.new }
+    ensures whole { out.new.fill < length out.new.bytes.now }
     ensures ruled { RuledBy (awaited (new_desk U.Store.pairs U.Store.capacity tallies.old 0) (pieces 10 input.now)) (awaited (new_desk U.Store.pairs U.Store.capacity tallies.old 0) (pieces 10 input.now)).form }
 {
     match find_opening(tallies, input, out) {
-        Found::Opening(entered, from) => serve_open(
-            room, texts, tallies, entered, input, from, out,
-        ),
-        Found::Never(session, fill) => {
+        Ok((entered, lines)) => serve_open(room, texts, tallies, entered, lines, out),
+        Err(session) => {
             session.leave();
-            fill
         }
     }
 }
 
-// The lines of an input that is not too long, in a buffer that is long enough.
-fn serve_lines(memory: Memory, input: &[u8], out: &mut [u8]) -> usize
-    requires room { 4096 * (length (pieces 10 input.now) + 1) ≤ length out.old }
-    ensures text { Wrote out.old 0 (session_text unread (pieces 10 input.now)) out.new result }
-    ensures whole { result < length out.new }
+// The lines of an input that is not too long, in an output that has room for them.
+fn serve_lines(memory: Memory, input: &[u8], out: &mut Output<'_>)
+    requires room { out.old.fill + 4096 * (length (pieces 10 input.now) + 1) ≤ length out.old.bytes.now }
+    ensures text { Puts out.old (session_text unread (pieces 10 input.now)) out.new }
+    ensures whole { out.new.fill < length out.new.bytes.now }
     ensures ruled { RuledInput input.now }
 {
     let Memory {
@@ -111,10 +95,22 @@ fn serve_lines(memory: Memory, input: &[u8], out: &mut [u8]) -> usize
         mut entries,
     } = memory;
     let records = nodes.as_mut_slice();
-    let _ = format(records);
+    format(records).unwrap();
     let texts = Chain::over(records);
     let mut tallies = Log::over(entries.as_mut_slice());
-    serve_session(room, texts, &mut tallies, input, out)
+    serve_session(room, texts, &mut tallies, input, out);
+}
+
+// How many bytes an output must have: 4,096 for each line and the end. An input that is too long has no line.
+fn bytes_needed(input: &[u8]) -> usize
+    ensures { result ≡ needed input.now }
+{
+    let lines = if input.len() > LONGEST {
+        0
+    } else {
+        Pieces::of(input, b'\n').count()
+    };
+    FREE * (lines + 1)
 }
 
 // Answers a whole input in memory that was reserved before: the reports fill the buffer from its start on. Each line and the end must
@@ -124,16 +120,16 @@ pub fn serve_in(memory: Memory, input: &[u8], out: &mut [u8]) -> Result<usize, C
     ensures buffer { out.new ≡ served_buffer input.now out.old }
     ensures ruled { is_ok result ≡ true → length input.now ≤ 32768 → RuledInput input.now }
 {
-    if input.len() > LONGEST {
-        if out.len() < FREE {
-            return Err(CommandFault::Output);
-        }
-        return Ok(write_fault(0, CommandFault::Input, out, 0));
-    }
-    if out.len() < FREE * (count_lines(input) + 1) {
+    let mut out = Output::over(out);
+    if out.free() < bytes_needed(input) {
         return Err(CommandFault::Output);
     }
-    Ok(serve_lines(memory, input, out))
+    if input.len() > LONGEST {
+        write_fault(0, CommandFault::Input, &mut out);
+    } else {
+        serve_lines(memory, input, &mut out);
+    }
+    Ok(out.fill)
 }
 
 // Answers a whole input. All memory is reserved before the first line.
@@ -141,18 +137,9 @@ pub fn serve(heap: Global, input: &[u8]) -> Result<Vec<u8>, AllocError>
     ensures report { IfOk result (λ v. v.items ≡ report input.now) }
     ensures ruled { OnOk result ((length input.now ≤ 32768 → RuledInput input.now)) }
 {
-    let lines = if input.len() > LONGEST {
-        0
-    } else {
-        count_lines(input)
-    };
-    let mut out = vec![in heap; 0u8; FREE * (lines + 1)]?;
+    let mut out = vec![in heap; 0u8; bytes_needed(input)]?;
     let memory = Memory::new(heap)?;
-    match serve_in(memory, input, out.as_mut_slice()) {
-        Ok(fill) => {
-            out.truncate(fill);
-            Ok(out)
-        }
-        Err(_) => unreachable(),
-    }
+    let fill = serve_in(memory, input, out.as_mut_slice()).unwrap();
+    out.truncate(fill);
+    Ok(out)
 }

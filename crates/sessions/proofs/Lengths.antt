@@ -12,6 +12,7 @@ use Rattle.minter.specs.Meaning.{texts_in}
 use Rattle.machine.specs.Names.{Name}
 use Rattle.machine.specs.Texts.{bytes_of}
 use Rattle.machine.specs.declared.text.Text.{Text}
+use Rattle.machine.specs.declared.call.Answer.{Answer}
 use Rattle.machine.specs.declared.call.Answer.TheVariants.{Minted, Held, Released, Queued, Ticked, Bound, Purged}
 use Rattle.machine.specs.declared.fault.RegisterFault.{RegisterFault}
 use Rattle.machine.specs.declared.fault.RegisterFault.TheVariants.{Clock}
@@ -35,30 +36,10 @@ pub template_short : (t : List ℕ) (many : ℕ) → length t ≤ 120 → many <
 template_short t many few fits = omega (arith, line_template t many, decimal_20 many fits)
 
 module _ (named : ℕ → Name) (short : (n : ℕ) → length (named n) ≤ 28) where
-  -- an answer that names a number
-  minted_short : (w : List ℕ) (r : Result ℕ RegisterFault) → length (told_of named w (said (λ n. Minted n) r)) ≤ 36
-  minted_short w (Ok n) = omega (arith, line_minted (named n), short n)
-  minted_short w (Err f) = omega arith
-
-  held_short : (w : List ℕ) (r : Result ℕ RegisterFault) → length (told_of named w (said (λ n. Held n) r)) ≤ 38
-  held_short w (Ok n) = omega (arith, line_held (named n), short n)
-  held_short w (Err f) = omega arith
-
-  released_short : (w : List ℕ) (r : Result ℕ RegisterFault) → length (told_of named w (said (λ n. Released n) r)) ≤ 38
-  released_short w (Ok n) = omega (arith, line_released (named n), short n)
-  released_short w (Err f) = omega arith
-
-  queued_short : (w : List ℕ) (r : Result ℕ RegisterFault) → length (told_of named w (said (λ n. Queued n) r)) ≤ 38
-  queued_short w (Ok n) = omega (arith, line_queued (named n), short n)
-  queued_short w (Err f) = omega arith
-
-  bound_short : (w : List ℕ) (r : Result ℕ RegisterFault) → length (told_of named w (said (λ n. Bound n) r)) ≤ 37 + length w
-  bound_short w (Ok n) = omega (arith, line_bound (named n) w, short n)
-  bound_short w (Err f) = omega arith
-
-  purged_short : (w : List ℕ) (r : Result ℕ RegisterFault) → length (told_of named w (said (λ n. Purged n) r)) ≤ 37 + length w
-  purged_short w (Ok n) = omega (arith, line_purged (named n) w, short n)
-  purged_short w (Err f) = omega arith
+  -- an answer that has a number, if the call was accepted
+  said_short : (w : List ℕ) (f : ℕ → Answer) (k : ℕ) → ((n : ℕ) → length (told_of named w (f n)) ≤ k) → (r : Result ℕ RegisterFault) → length (told_of named w (said f r)) ≤ k
+  said_short w f k each (Ok n) = each n
+  said_short w f k each (Err x) = omega arith
 
   -- a second of 13 digits
   ticked_short : (w : List ℕ) (m : Machine) (s : ℕ) → s < 10 ^ 13 → length (told_of named w (said (λ n. Ticked n) (machine.tick m s).1)) ≤ 38
@@ -71,7 +52,7 @@ module _ (named : ℕ → Name) (short : (n : ℕ) → length (named n) ≤ 28) 
   mints_short : (k : ℕ) (m : Machine) → length (tells named [] (answers m (mints k m))) ≤ 36 * k
   mints_short zero m = omega arith
   mints_short (suc k) m =
-      let first = minted_short [] (machine.mint m).1 in
+      let first = said_short [] (λ n. Minted n) 36 (λ n. omega (arith, line_minted (named n), short n)) (machine.mint m).1 in
       let others : (b : Bool) → length (tells named [] (answers (machine.mint m).0 (cond b (mints k (machine.mint m).0) []))) ≤ 36 * k =
       λ b. elim b as (λ b. length (tells named [] (answers (machine.mint m).0 (cond b (mints k (machine.mint m).0) []))) ≤ 36 * k) [ true ↦ mints_short k (machine.mint m).0 | false ↦ omega arith ] in
       omega (arith, others (is_ok (machine.mint m).1), length-append (told_of named [] (said (λ n. Minted n) (machine.mint m).1)) (tells named [] (answers (machine.mint m).0 (cond (is_ok (machine.mint m).1) (mints k (machine.mint m).0) []))))
@@ -89,12 +70,12 @@ looked m text k (Err f) h = omega arith
 pub performed_short : (m : Machine) (x : Said) → ((n : ℕ) → length (m.source.named n) ≤ 28) → ((t : List ℕ) (e : Option Element) → length (unwrap_or (machine.fetched m t e) []) ≤ 40)
     → Fair x → Brief x → length (performed m x).text ≤ 3600
 performed_short m (mint n) short few fair brief = omega (arith, mints_short m.source.named short n m, fair.1)
-performed_short m (hold_set t) short few fair brief = alone _ 3600 (omega (arith, held_short m.source.named short [] (machine.hold m t).1))
-performed_short m (hold_release t) short few fair brief = alone _ 3600 (omega (arith, released_short m.source.named short [] (machine.release m t).1))
-performed_short m (queue t d) short few fair brief = alone _ 3600 (omega (arith, queued_short m.source.named short [] (machine.queue m t d).1))
+performed_short m (hold_set t) short few fair brief = alone _ 3600 (said_short m.source.named short [] (λ n. Held n) 3600 (λ n. omega (arith, line_held (m.source.named n), short n)) (machine.hold m t).1)
+performed_short m (hold_release t) short few fair brief = alone _ 3600 (said_short m.source.named short [] (λ n. Released n) 3600 (λ n. omega (arith, line_released (m.source.named n), short n)) (machine.release m t).1)
+performed_short m (queue t d) short few fair brief = alone _ 3600 (said_short m.source.named short [] (λ n. Queued n) 3600 (λ n. omega (arith, line_queued (m.source.named n), short n)) (machine.queue m t d).1)
 performed_short m (tick s) short few fair brief = alone _ 3600 (omega (arith, ticked_short m.source.named short [] m s fair))
-performed_short m (bind_set t w e x) short few fair brief = alone _ 3600 (omega (arith, bound_short m.source.named short w (machine.bind m t e x).1, brief))
-performed_short m (bind_purge t w e) short few fair brief = alone _ 3600 (omega (arith, purged_short m.source.named short w (machine.purge m t e).1, brief))
+performed_short m (bind_set t w e x) short few fair brief = alone _ 3600 (said_short m.source.named short w (λ n. Bound n) 3600 (λ n. omega (arith, line_bound (m.source.named n) w, short n, brief)) (machine.bind m t e x).1)
+performed_short m (bind_purge t w e) short few fair brief = alone _ 3600 (said_short m.source.named short w (λ n. Purged n) 3600 (λ n. omega (arith, line_purged (m.source.named n) w, short n, brief)) (machine.purge m t e).1)
 performed_short m (fetch t w e) short few fair brief =
     looked m (λ n. line (fetched (m.source.named n) w (unwrap_or (machine.fetched m t e) []))) 3600 (machine.fetch m t e).1
     (λ n. omega (arith, line_fetched (m.source.named n) w (unwrap_or (machine.fetched m t e) []), short n, few t e, brief))

@@ -1,5 +1,5 @@
 pub mod Ending
+pub mod Entering
 pub mod Framing
 pub mod Lengths
 pub mod Performs
-pub mod Writes

@@ -10,11 +10,11 @@ use Rattle.machine.specs.declared.call.Answer.{Answer}
 use Rattle.machine.specs.declared.call.Answer.TheVariants.{Minted, Held, Released, Queued, Ticked, Bound, Purged, Refused}
 use Rattle.machine.specs.declared.fault.RegisterFault.{RegisterFault}
 use Rattle.sessions.specs.Performing.{mints, told_of, tells, minted_by, names_minted, fault_of, or_else, first_fault, Performed, by_calls, Did}
-use Rattle.sessions.proofs.Writes.{none}
 use Rattle.reports.specs.Reports.{line, minted}
-use Rattle.texts.proofs.Fill.{join}
+use Rattle.texts.proofs.Fill.{puts_none, puts_join}
 use Rattle.sessions.specs.declared.perform.Done.{Done}
-use Rattle.texts.specs.Output.{Wrote}
+use Rattle.texts.specs.Output.{Puts}
+use Rattle.texts.specs.declared.output.Output.{Output}
 
 or_none : (o : Option RegisterFault) → or_else o None ≡ o
 or_none (Some f) = refl
@@ -32,17 +32,17 @@ not_accepted (Purged n) e = sym e
 not_accepted (Refused f) e = refl
 
 -- one call, reported under the names that the register has after it
-pub one_call : (m after : Machine) (word : List ℕ) (c : Asked) (a : Answer) (out : List ℕ) (fill : ℕ) (written : List ℕ) (done : Done)
+pub one_call : {m after : Machine} (word : List ℕ) (c : Asked) {a : Answer} {old new : Output} {done : Done}
     → Sound m → after ≡ (step m c).0 → a ≡ (step m c).1
-    → Wrote out fill (told_of after.source.named word a) written done.fill → done.minted ≡ minted_by a → done.fault ≡ fault_of a
-    → Did (by_calls m word (c ∷ [])) after out fill written done
-one_call m after word c a out fill written done sound e f wrote many why =
+    → Puts old (told_of after.source.named word a) new → done.minted ≡ minted_by a → done.fault ≡ fault_of a
+    → Did (by_calls m word (c ∷ [])) after old new done
+one_call {m} {after} word c {a} {old} {new} {done} sound e f wrote many why =
     let same : after.source.named ≡ m.source.named = ap (λ (x : Machine). x.source.named) e ∙ (same_naming m (c ∷ []) sound).1 in
     let told : told_of after.source.named word a ≡ told_of m.source.named word (step m c).1 ++ [] =
     ap₂ (λ (x : ℕ → Name) (b : Answer). told_of x word b) same f ∙ sym (append-nil (told_of m.source.named word (step m c).1)) in
     record {
       machine = e;
-      text = subst (λ (t : List ℕ). Wrote out fill t written done.fill) told wrote;
+      text = subst (λ (t : List ℕ). Puts old t new) told wrote;
       minted = many ∙ ap minted_by f ∙ sym (add-zero (minted_by (step m c).1));
       fault = why ∙ ap fault_of f ∙ sym (or_none (fault_of (step m c).1));
     }
@@ -73,22 +73,22 @@ taken f m k n e =
 stopped : (f : ℕ → Name) (m : Machine) (k : ℕ) (x : RegisterFault) → (mint m).1 ≡ Err x → by_named f m [] (mints (suc k) m) ≡ by_named f m [] (Mint ∷ [])
 stopped f m k x e = ap (λ (r : Result ℕ RegisterFault). by_named f m [] (Mint ∷ cond (is_ok r) (mints k (mint m).0) [])) e
 
--- a run of mints that has made i of them: it began with m, has put the text t, and now stands at n
-pub record Minting (kept : Type 0) (m n : Machine) (count i : ℕ) (out : List ℕ) (fill : ℕ) (written : List ℕ) (filled : ℕ) : Type 0 where
+-- a run of mints that has made i of them: it began with m, has put the text so far, and now stands at n
+pub record Minting (kept : Type 0) (m n : Machine) (count i : ℕ) (old now : Output) : Type 0 where
   pub sound : Sound n
   pub store : kept
   pub named : n.source.named ≡ m.source.named
   pub so_far : List ℕ
-  pub wrote : Wrote out fill so_far written filled
+  pub wrote : Puts old so_far now
   pub whole : led so_far i (by_named m.source.named n [] (mints (count - i) n)) ≡ by_calls m [] (mints count m)
 
-pub begins : (kept : Type 0) (m : Machine) (count : ℕ) (out : List ℕ) (fill : ℕ) → Sound m → kept → Minting kept m m count 0 out fill out fill
-begins kept m count out fill s k = record {
+pub begins : {kept : Type 0} {m : Machine} {count : ℕ} {old : Output} → Sound m → kept → Minting kept m m count 0 old old
+begins {kept} {m} {count} {old} s k = record {
   sound = s;
   store = k;
   named = refl;
   so_far = [];
-  wrote = none out fill;
+  wrote = puts_none old;
   whole = let all : count - 0 ≡ count = omega arith in
       (λ j. record {
         machine = final m (mints (all j) m);
@@ -107,12 +107,12 @@ has_fault : (r : Result ℕ RegisterFault) → is_some (or_else (fault_of (said 
 has_fault (Ok n) e = let z : ◌≡◌ {A = ℕ} 0 1 = cc in absurd (omega arith)
 has_fault (Err x) e = (x, refl)
 
-module _ (kept kept' : Type 0) (m n n' : Machine) (count i : ℕ) (out : List ℕ) (fill : ℕ) (was : List ℕ) (at : ℕ) (now : List ℕ) (one : Done)
-    (here : i < count) (going : Minting kept m n count i out fill was at) (did : Did (by_calls n [] (Mint ∷ [])) n' was at now one) where
+module _ {kept : Type 0} {m n n' : Machine} {count i : ℕ} {old was now : Output} {one : Done}
+    (here : i < count) (going : Minting kept m n count i old was) (did : Did (by_calls n [] (Mint ∷ [])) n' was now one) where
   left : count - i ≡ suc (count - (i + 1))
   left = omega arith
 
-  pub goes_on : is_some one.fault ≡ false → Sound n' → kept' → Minting kept' m n' count (i + 1) out fill now one.fill
+  pub goes_on : {kept' : Type 0} → is_some one.fault ≡ false → Sound n' → kept' → Minting kept' m n' count (i + 1) old now
   goes_on fine sound store =
       let got = has_number (mint n).1 (ap is_some (sym did.fault) ∙ fine) in
       let f = m.source.named in
@@ -124,7 +124,7 @@ module _ (kept kept' : Type 0) (m n n' : Machine) (count i : ℕ) (out : List �
         store = store;
         named = ap (λ (x : Machine). x.source.named) did.machine ∙ (same_naming n (Mint ∷ []) going.sound).1 ∙ going.named;
         so_far = going.so_far ++ line (minted (f got.0));
-        wrote = join going.wrote (subst (λ (t : List ℕ). Wrote was at t now one.fill) told did.text);
+        wrote = puts_join going.wrote (subst (λ (t : List ℕ). Puts was t now) told did.text);
         whole =
             ap (λ (x : Machine). led (going.so_far ++ line (minted (f got.0))) (i + 1) (by_named f x [] (mints (count - (i + 1)) x))) did.machine
             ∙ (λ j. record {
@@ -137,8 +137,8 @@ module _ (kept kept' : Type 0) (m n n' : Machine) (count i : ℕ) (out : List �
             ∙ going.whole;
       }
 
-  pub ends_refused : (done : Done) → is_some one.fault ≡ true → done.fill ≡ one.fill → done.minted ≡ i → done.fault ≡ one.fault → Did (by_calls m [] (mints count m)) n' out fill now done
-  ends_refused done bad filled many why =
+  pub ends_refused : {done : Done} → is_some one.fault ≡ true → done.minted ≡ i → done.fault ≡ one.fault → Did (by_calls m [] (mints count m)) n' old now done
+  ends_refused {done} bad many why =
       let got = has_fault (mint n).1 (ap is_some (sym did.fault) ∙ bad) in
       let f = m.source.named in
       let all : led going.so_far i (by_named f n [] (Mint ∷ [])) ≡ by_calls m [] (mints count m) =
@@ -147,22 +147,20 @@ module _ (kept kept' : Type 0) (m n n' : Machine) (count i : ℕ) (out : List �
       let none-minted : names_minted (answers n (Mint ∷ [])) ≡ 0 = ap (λ (r : Result ℕ RegisterFault). minted_by (said (λ n. Minted n) r) + 0) got.1 in
       record {
         machine = did.machine ∙ ap (λ (p : Performed). p.machine) all;
-        text = subst (λ (t : List ℕ). Wrote out fill t now done.fill) (ap (λ (t : List ℕ). going.so_far ++ t) told ∙ ap (λ (p : Performed). p.text) all)
-            (subst (λ (k : ℕ). Wrote out fill (going.so_far ++ tells n.source.named [] (answers n (Mint ∷ []))) now k) (sym filled) (join going.wrote did.text));
+        text = subst (λ (t : List ℕ). Puts old t now) (ap (λ (t : List ℕ). going.so_far ++ t) told ∙ ap (λ (p : Performed). p.text) all) (puts_join going.wrote did.text);
         minted = many ∙ sym (add-zero i) ∙ ap (λ (k : ℕ). i + k) (sym none-minted) ∙ ap (λ (p : Performed). p.minted) all;
         fault = why ∙ did.fault ∙ ap (λ (p : Performed). p.fault) all;
       }
 
-pub ends : (kept : Type 0) (m n : Machine) (count i : ℕ) (out : List ℕ) (fill : ℕ) (written : List ℕ) (at : ℕ) (done : Done) → count ≤ i
-    → Minting kept m n count i out fill written at → done.fill ≡ at → done.minted ≡ i → done.fault ≡ None → Did (by_calls m [] (mints count m)) n out fill written done
-ends kept m n count i out fill written at done h going filled many why =
+pub ends : {kept : Type 0} {m n : Machine} {count i : ℕ} {old new : Output} {done : Done} → count ≤ i
+    → Minting kept m n count i old new → done.minted ≡ i → done.fault ≡ None → Did (by_calls m [] (mints count m)) n old new done
+ends {kept} {m} {n} {count} {i} {old} {new} {done} h going many why =
     let f = m.source.named in
     let left : count - i ≡ 0 = omega arith in
     let all : led going.so_far i (by_named f n [] []) ≡ by_calls m [] (mints count m) = ap (λ (k : ℕ). led going.so_far i (by_named f n [] (mints k n))) (sym left) ∙ going.whole in
     record {
       machine = ap (λ (p : Performed). p.machine) all;
-      text = subst (λ (t : List ℕ). Wrote out fill t written done.fill) (sym (append-nil going.so_far) ∙ ap (λ (p : Performed). p.text) all)
-          (subst (λ (k : ℕ). Wrote out fill going.so_far written k) (sym filled) going.wrote);
+      text = subst (λ (t : List ℕ). Puts old t new) (sym (append-nil going.so_far) ∙ ap (λ (p : Performed). p.text) all) going.wrote;
       minted = many ∙ sym (add-zero i) ∙ ap (λ (p : Performed). p.minted) all;
       fault = why ∙ ap (λ (p : Performed). p.fault) all;
     }

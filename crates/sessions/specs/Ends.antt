@@ -5,10 +5,11 @@
 use Rattle.std.specs.Prelude.{◌≡◌, ℕ, zero, suc, ◌+◌, true, false, List, [], ◌++◌, Some, None, Ok, Err, Option, Result, nat_lt}
 use Rattle.commands.specs.declared.fault.CommandFault.TheVariants.{Output}
 use Rattle.reports.specs.Reports.{line, tally, total}
-use Rattle.texts.specs.Output.{Wrote}
+use Rattle.texts.specs.Output.{Puts}
+use Rattle.texts.specs.declared.output.Output as output
 use Rattle.sessions.specs.Tallies.{Tallies, under}
-use Rattle.sessions.specs.declared.end.Closed.{Closed}
 use Rattle.sessions.specs.declared.end.StillOpen.{StillOpen}
+use Rattle.sessions.specs.declared.session.EndedSession.{EndedSession}
 use Rattle.sessions.specs.declared.session.OpenSession.{OpenSession}
 
 abbrev pub tally_line : ℕ → Option ℕ → List ℕ
@@ -24,7 +25,6 @@ abbrev pub closing : Tallies → ℕ → List ℕ
 closing t minted = tally_lines t 30 1 ++ line (total minted)
 
 -- the session has ended with its lines written, or is open still for want of 4,096 free bytes, and nothing was written
-abbrev pub Closes : ℕ → Tallies → OpenSession → List ℕ → ℕ → List ℕ → Result Closed StillOpen → Type 0
-Closes free t s out fill written (Ok c) =
-    (nat_lt free 4096 ≡ false) × (c.session ≡ record { lines = s.lines; minted = s.minted }) × Wrote out fill (closing t s.minted) written c.fill
-Closes free t s out fill written (Err o) = (nat_lt free 4096 ≡ true) × (o.session ≡ s) × (o.fault ≡ Output) × (written ≡ out)
+abbrev pub Closes : ℕ → Tallies → OpenSession → output.Output → output.Output → Result EndedSession StillOpen → Type 0
+Closes free t s old new (Ok e) = (nat_lt free 4096 ≡ false) × (e ≡ record { lines = s.lines; minted = s.minted }) × Puts old (closing t s.minted) new
+Closes free t s old new (Err o) = (nat_lt free 4096 ≡ true) × (o.session ≡ s) × (o.fault ≡ Output) × (new ≡ old)

@@ -3,6 +3,7 @@
 -- Answered: what a line leaves, what it writes, and why it was refused, if it was
 -- refusing: a line that is refused; concluded: one whose command was performed; heard: one that was read, or was not
 -- counted: one line more; unheard: a line that is not even counted; framed: every line; answered: every line by its bytes
+-- roomy: that an output has room for a line or an end; admitted: that one line more is counted
 -- Within: a bound on what a command reports
 -- Replied: of the code, a line was answered so
 use Rattle.std.specs.Prelude.{◌≡◌, ℕ, ◌+◌, ◌≤◌, min, cond, List, [], ◌++◌, length, Some, None, Ok, Err, Option, Result, nat_le, nat_lt}
@@ -18,7 +19,8 @@ use Rattle.reports.specs.Reports.{line, refused}
 use Rattle.sources.specs.Stock.{Stock}
 use Rattle.stores.specs.declared.tally.TallyKey.{TallyKey}
 use Rattle.stores.specs.declared.text.TextKey.{TextKey}
-use Rattle.texts.specs.Output.{Wrote}
+use Rattle.texts.specs.Output.{Puts}
+use Rattle.texts.specs.declared.output.Output as output
 use Rattle.sessions.specs.Performing.{Performed, performed}
 use Rattle.sessions.specs.Tallies.{Tallies, tallies_in, tallied}
 use Rattle.sessions.specs.declared.session.OpenSession.{OpenSession}
@@ -65,6 +67,13 @@ counted d = record { machine = d.machine; tallies = d.tallies; lines = d.lines +
 abbrev pub unheard : Desk → CommandFault → Answered
 unheard d f = record { desk = d; text = []; fault = Some f }
 
+-- with so many bytes free for output, and so many lines counted
+abbrev pub roomy : ℕ → Result (Unit {0}) CommandFault
+roomy free = cond (nat_lt free 4096) (Err Output) (Ok tt)
+
+abbrev pub admitted : ℕ → ℕ → Result (Unit {0}) CommandFault
+admitted free lines = cond (nat_le 65535 lines) (Err Lines) (roomy free)
+
 -- with so many bytes free for output: 28 for line 65,536, then 29 under 4,096 free bytes, then what the line says
 abbrev pub framed : ℕ → Desk → Result Said CommandFault → Answered
 framed free d read = cond (nat_le 65535 d.lines) (unheard d Lines) (cond (nat_lt free 4096) (unheard d Output) (heard (counted d) read))
@@ -77,7 +86,7 @@ abbrev pub Within : Machine → Result Said CommandFault → Type 0
 Within m (Ok s) = length (performed m s).text ≤ 4000
 Within m (Err f) = Unit {0}
 
-pub record Replied (a : Answered) (after : Desk) (out : List ℕ) (fill : ℕ) (written : List ℕ) (reply : Reply) : Type 0 where
+pub record Replied (a : Answered) (after : Desk) (old new : output.Output) (reply : Reply) : Type 0 where
   pub desk : after ≡ a.desk
-  pub text : Wrote out fill a.text written reply.fill
+  pub text : Puts old a.text new
   pub fault : reply.fault ≡ a.fault

@@ -15,7 +15,8 @@ use Rattle.names.specs.Templates.{form}
 use Rattle.names.specs.declared.fault.TemplateFault.{TemplateFault}
 use Rattle.reports.specs.Reports.{line, template, refused}
 use Rattle.stores.specs.declared.tally.TallyKey.{TallyKey}
-use Rattle.texts.specs.Output.{Wrote}
+use Rattle.texts.specs.Output.{Puts}
+use Rattle.texts.specs.declared.output.Output as output
 use Rattle.sessions.specs.Tallies.{Tallies, tallies_in, tallied}
 use Rattle.sessions.specs.declared.opening.Entered.{Entered}
 use Rattle.sessions.specs.declared.opening.TurnedAway.{TurnedAway}
@@ -55,8 +56,6 @@ abbrev pub opened : ℕ → NewDesk → List ℕ → Opened
 opened free d text = cond (nat_le 65535 d.lines) (unopened d Lines) (cond (nat_lt free 4096) (unopened d Output) (entered (record { tallies = d.tallies; lines = d.lines + 1 }) (opens text)))
 
 -- the session is open, with no name minted, or it stays new
-abbrev pub Led : Opened → Tallies → List ℕ → ℕ → List ℕ → Result Entered TurnedAway → Type 0
-Led o after out fill written (Ok e) =
-    (o.outcome ≡ Ok (form e.template)) × (o.desk ≡ record { tallies = after; lines = e.session.lines }) × (e.session.minted ≡ 0) × Wrote out fill o.text written e.fill
-Led o after out fill written (Err t) =
-    (o.outcome ≡ Err t.fault) × (o.desk ≡ record { tallies = after; lines = t.session.lines }) × Wrote out fill o.text written t.fill
+abbrev pub Led : Opened → Tallies → output.Output → output.Output → Result Entered TurnedAway → Type 0
+Led o after old new (Ok e) = (o.outcome ≡ Ok (form e.template)) × (o.desk ≡ record { tallies = after; lines = e.session.lines }) × (e.session.minted ≡ 0) × Puts old o.text new
+Led o after old new (Err t) = (o.outcome ≡ Err t.fault) × (o.desk ≡ record { tallies = after; lines = t.session.lines }) × Puts old o.text new

@@ -13,7 +13,8 @@ use Rattle.machine.specs.declared.call.Answer.{Answer}
 use Rattle.machine.specs.declared.call.Answer.TheVariants.{Minted, Held, Released, Queued, Ticked, Bound, Purged, Refused}
 use Rattle.machine.specs.declared.fault.RegisterFault.{RegisterFault}
 use Rattle.reports.specs.Reports.{line, minted, clock, held, released, queued, valid, bound, purged, fetched}
-use Rattle.texts.specs.Output.{Wrote}
+use Rattle.texts.specs.Output.{Puts}
+use Rattle.texts.specs.declared.output.Output.{Output}
 use Rattle.std.specs.Option.{unwrap_or}
 use Rattle.sessions.specs.declared.perform.Done.{Done}
 
@@ -121,9 +122,9 @@ performed m (bind_purge t w e) = by_calls m w (Purge t e ∷ [])
 performed m (fetch t w e) = by_look m (λ n. line (fetched (m.source.named n) w (unwrap_or (machine.fetched m t e) []))) (machine.fetch m t e).1
 performed m (validate t) = by_look m (λ n. line (valid (m.source.named n))) (machine.validate m t)
 
--- of the code: a command did what p says, from a register's machine on, with its lines put into a buffer at the fill
-pub record Did (p : Performed) (after : Machine) (out : List ℕ) (fill : ℕ) (written : List ℕ) (done : Done) : Type 0 where
+-- of the code: a command did what p says, from a register's machine on, with its lines put into the output
+pub record Did (p : Performed) (after : Machine) (old new : Output) (done : Done) : Type 0 where
   pub machine : after ≡ p.machine
-  pub text : Wrote out fill p.text written done.fill
+  pub text : Puts old p.text new
   pub minted : done.minted ≡ p.minted
   pub fault : done.fault ≡ p.fault

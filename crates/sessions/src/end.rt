@@ -1,26 +1,20 @@
 // The end of a session.
 ghost use Rattle.std.specs.Prelude.{◌≡◌, ◌-◌, ◌*◌, ◌<◌, ◌≤◌, true, length, is_ok};
-ghost use Rattle.reports.specs.Reports.{line, tally, total};
-ghost use Rattle.texts.specs.Output.{Wrote};
+ghost use Rattle.reports.specs.Reports.{line, tally};
+ghost use Rattle.texts.specs.Output.{Puts};
 ghost use Rattle.sessions.specs.Ends.{tally_line, tally_lines, closing, Closes};
 ghost use Rattle.sessions.specs.Tallies.{tallies_in, under};
 
-use crate::line::FREE;
-use crate::plain::{tally_report, total_report};
+use crate::line::find_room;
 use crate::session::{EndedSession, OpenSession};
 use commands::fault::CommandFault;
-use reports::write_report;
+use reports::{Report, write_report};
 use stores::store::Store;
 use stores::tally::TallyKey;
+use texts::output::Output;
 
 // The refusal numbers are 1 to 30.
 const PAST_THE_LAST: u8 = 31;
-
-// The ended session, and the fill after the last report.
-pub struct Closed {
-    pub session: EndedSession,
-    pub fill: usize,
-}
 
 // The session, which is open still, and why.
 pub struct StillOpen {
@@ -29,55 +23,32 @@ pub struct StillOpen {
 }
 
 // The report line of a refusal number that was met.
-fn write_count(number: u8, count: u64, out: &mut [u8], fill: usize) -> usize
-    ensures text { Wrote out.old fill (line (tally number count)) out.new result }
+fn write_count(number: u8, count: u64, out: &mut Output<'_>)
+    ensures text { Puts out.old (line (tally number count)) out.new }
     ensures brief { length (line (tally number count)) ≤ 48 }
 {
-    write_report(out, fill, tally_report(number, count))
+    write_report(out, Report::Tally(number, count))
 }
 
 // The report line of a refusal number, if it was met.
-fn write_tally<U: Store<TallyKey, u64>>(
-    tallies: &U,
-    number: u8,
-    out: &mut [u8],
-    fill: usize,
-) -> usize
-    ensures text { U.Store.sound tallies.now → Wrote out.old fill (tally_line number ((tallies_in (U.Store.pairs tallies.now) (U.Store.capacity tallies.now)).counts (under number))) out.new result }
+fn write_tally<U: Store<TallyKey, u64>>(tallies: &U, number: u8, out: &mut Output<'_>)
+    ensures text { U.Store.sound tallies.now → Puts out.old (tally_line number ((tallies_in (U.Store.pairs tallies.now) (U.Store.capacity tallies.now)).counts (under number))) out.new }
     ensures brief { U.Store.sound tallies.now → length (tally_line number ((tallies_in (U.Store.pairs tallies.now) (U.Store.capacity tallies.now)).counts (under number))) ≤ 48 }
 {
     let mut count = 0;
     if tallies.get(&TallyKey { number }, &mut count) {
-        write_count(number, count, out, fill)
-    } else {
-        fill
+        write_count(number, count, out);
     }
 }
 
 // The report lines of the refusal numbers from one to below another, rising.
-fn write_tallies<U: Store<TallyKey, u64>>(
-    tallies: &U,
-    from: u8,
-    to: u8,
-    out: &mut [u8],
-    fill: usize,
-) -> usize
-    ensures text { U.Store.sound tallies.now → Wrote out.old fill (tally_lines (tallies_in (U.Store.pairs tallies.now) (U.Store.capacity tallies.now)) (to - from) from) out.new result }
+fn write_tallies<U: Store<TallyKey, u64>>(tallies: &U, from: u8, to: u8, out: &mut Output<'_>)
+    ensures text { U.Store.sound tallies.now → Puts out.old (tally_lines (tallies_in (U.Store.pairs tallies.now) (U.Store.capacity tallies.now)) (to - from) from) out.new }
     ensures brief { U.Store.sound tallies.now → length (tally_lines (tallies_in (U.Store.pairs tallies.now) (U.Store.capacity tallies.now)) (to - from) from) ≤ 48 * (to - from) }
 {
-    let mut at = fill;
     for number in from..to {
-        at = write_tally(tallies, number, out, at);
+        write_tally(tallies, number, out);
     }
-    at
-}
-
-// The report line of how many names were minted.
-fn write_total(minted: u64, out: &mut [u8], fill: usize) -> usize
-    ensures text { Wrote out.old fill (line (total minted)) out.new result }
-    ensures brief { length (line (total minted)) ≤ 28 }
-{
-    write_report(out, fill, total_report(minted))
 }
 
 impl OpenSession {
@@ -85,25 +56,21 @@ impl OpenSession {
     pub fn end<U: Store<TallyKey, u64>>(
         self,
         tallies: &U,
-        out: &mut [u8],
-        fill: usize,
-    ) -> Result<Closed, StillOpen>
-        ensures closes { U.Store.sound tallies.now → Closes (length out.old - fill) (tallies_in (U.Store.pairs tallies.now) (U.Store.capacity tallies.now)) self out.old fill out.new result }
+        out: &mut Output<'_>,
+    ) -> Result<EndedSession, StillOpen>
+        ensures closes { U.Store.sound tallies.now → Closes (length out.old.bytes.now - out.old.fill) (tallies_in (U.Store.pairs tallies.now) (U.Store.capacity tallies.now)) self out.old out.new result }
         ensures brief { U.Store.sound tallies.now → is_ok result ≡ true → length (closing (tallies_in (U.Store.pairs tallies.now) (U.Store.capacity tallies.now)) self.minted) < 4096 }
     {
-        if out.len().saturating_sub(fill) < FREE {
+        if let Err(fault) = find_room(out) {
             return Err(StillOpen {
                 session: self,
-                fault: CommandFault::Output,
+                fault,
             });
         }
         let OpenSession { lines, minted } = self;
-        let fill = write_tallies(tallies, 1, PAST_THE_LAST, out, fill);
-        let fill = write_total(minted, out, fill);
-        Ok(Closed {
-            session: EndedSession { lines, minted },
-            fill,
-        })
+        write_tallies(tallies, 1, PAST_THE_LAST, out);
+        write_report(out, Report::Total(minted));
+        Ok(EndedSession { lines, minted })
     }
 }
 

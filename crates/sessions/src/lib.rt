@@ -5,5 +5,4 @@ pub mod end;
 pub mod line;
 pub mod opening;
 pub mod perform;
-mod plain;
 pub mod session;

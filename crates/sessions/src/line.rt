@@ -1,44 +1,64 @@
 // Command lines of an open session.
-ghost use Rattle.std.specs.Prelude.{◌≡◌, ◌-◌, ◌≤◌, true, false, ◌||◌, length, is_ok, Ok, nat_le, nat_lt};
+ghost use Rattle.std.specs.Prelude.{◌≡◌, ◌-◌, ◌<◌, ◌≤◌, true, false, ◌||◌, length, is_ok, OnOk, Ok, nat_le, nat_lt};
 ghost use Rattle.commands.specs.Faults.{command_refusal};
 ghost use Rattle.commands.specs.Forms.{reads, said, said_read};
 ghost use Rattle.minter.specs.Meaning.{meaning};
 ghost use Rattle.machine.specs.Runs.{Sound};
 ghost use Rattle.reports.specs.Reports.{line as bytes_of_line, refused};
-ghost use Rattle.texts.specs.Output.{Wrote};
-ghost use Rattle.sessions.specs.Frames.{desk, heard, framed, answered, Within, Replied};
+ghost use Rattle.texts.specs.Output.{Puts};
+ghost use Rattle.sessions.specs.Frames.{desk, heard, roomy, admitted, framed, answered, Within, Replied};
 ghost use Rattle.sessions.specs.Performing.{performed};
 ghost use Rattle.sessions.specs.Tallies.{tallies_in, tallied};
 
 use crate::perform::perform;
-use crate::plain::refused_report;
 use crate::session::OpenSession;
 use commands::command::Command;
 use commands::fault::CommandFault;
 use commands::reading::read_command;
 use machine::text::Text;
 use minter::register::Register;
-use names::fault::{Layer, Refusal};
-use reports::write_report;
+use names::fault::Refusal;
+use reports::{Report, write_report};
 use sources::source::Source;
 use stores::store::Store;
 use stores::tally::{TallyKey, raise};
 use stores::text::TextKey;
+use texts::output::Output;
 
 // How many lines a session counts, and how many bytes a line must find free for its output.
-pub(crate) const LINES: u64 = 65_535;
+const LINES: u64 = 65_535;
 
 pub const FREE: usize = 4096;
 
-// The session after a line, the fill after its report, and why it was refused, if it was.
+// The session after a line, and why it was refused, if it was.
 pub struct Reply {
     pub session: OpenSession,
-    pub fill: usize,
     pub fault: Option<CommandFault>,
 }
 
+// That a line or an end finds room for its output.
+pub(crate) fn find_room(out: &Output<'_>) -> Result<(), CommandFault>
+    ensures { result ≡ roomy (length out.now.bytes.now - out.now.fill) }
+{
+    if out.free() < FREE {
+        return Err(CommandFault::Output);
+    }
+    Ok(())
+}
+
+// That a session that has counted so many lines may count one more, which finds room for its output.
+pub(crate) fn admit(lines: u64, out: &Output<'_>) -> Result<(), CommandFault>
+    ensures answer { result ≡ admitted (length out.now.bytes.now - out.now.fill) lines }
+    ensures few { OnOk result (lines < 65535) }
+{
+    if lines >= LINES {
+        return Err(CommandFault::Lines);
+    }
+    find_room(out)
+}
+
 // Tallies a refusal, where the store takes it.
-pub(crate) fn tally<U: Store<TallyKey, u64>>(tallies: &mut U, fault: CommandFault)
+fn tally<U: Store<TallyKey, u64>>(tallies: &mut U, fault: CommandFault)
     ensures after { U.Store.sound tallies.old → tallies_in (U.Store.pairs tallies.new) (U.Store.capacity tallies.new) ≡ tallied (command_refusal fault).number (tallies_in (U.Store.pairs tallies.old) (U.Store.capacity tallies.old)) }
     ensures sound { U.Store.sound tallies.old → U.Store.sound tallies.new }
 {
@@ -46,54 +66,28 @@ pub(crate) fn tally<U: Store<TallyKey, u64>>(tallies: &mut U, fault: CommandFaul
     let _ = raise(tallies, TallyKey { number });
 }
 
-// The report line of a refusal.
-fn write_refusal(
-    lines: u64,
-    number: u8,
-    layer: Layer,
-    place: usize,
-    out: &mut [u8],
-    fill: usize,
-) -> usize
-    ensures text { Wrote out.old fill (bytes_of_line (refused lines number place)) out.new result }
-    ensures brief { length (bytes_of_line (refused lines number place)) ≤ 71 }
-{
-    let refusal = Refusal {
-        number,
-        layer,
-        place,
-    };
-    write_report(out, fill, refused_report(lines, refusal))
-}
-
-// The report line of a fault, under the number of its line, from the fill on. The answer is the fill after it.
-pub fn write_fault(lines: u64, fault: CommandFault, out: &mut [u8], fill: usize) -> usize
-    ensures text { Wrote out.old fill (bytes_of_line (refused lines (command_refusal fault).number (command_refusal fault).place)) out.new result }
+// The report line of a fault, under the number of its line.
+pub fn write_fault(lines: u64, fault: CommandFault, out: &mut Output<'_>)
+    ensures text { Puts out.old (bytes_of_line (refused lines (command_refusal fault).number (command_refusal fault).place)) out.new }
     ensures brief { length (bytes_of_line (refused lines (command_refusal fault).number (command_refusal fault).place)) ≤ 71 }
 {
-    let Refusal {
-        number,
-        layer,
-        place,
-    } = Refusal::from(fault);
-    write_refusal(lines, number, layer, place, out, fill)
+    write_report(out, Report::Refused(lines, Refusal::from(fault)))
 }
 
-// Refuses a line: its report line from the fill on, and its tally. The answer is the fill after it.
+// Refuses a line: its tally, and its report line.
 pub(crate) fn refuse<U: Store<TallyKey, u64>>(
     lines: u64,
     fault: CommandFault,
     tallies: &mut U,
-    out: &mut [u8],
-    fill: usize,
-) -> usize
-    ensures text { Wrote out.old fill (bytes_of_line (refused lines (command_refusal fault).number (command_refusal fault).place)) out.new result }
+    out: &mut Output<'_>,
+)
+    ensures text { Puts out.old (bytes_of_line (refused lines (command_refusal fault).number (command_refusal fault).place)) out.new }
     ensures after { U.Store.sound tallies.old → tallies_in (U.Store.pairs tallies.new) (U.Store.capacity tallies.new) ≡ tallied (command_refusal fault).number (tallies_in (U.Store.pairs tallies.old) (U.Store.capacity tallies.old)) }
     ensures sound { U.Store.sound tallies.old → U.Store.sound tallies.new }
     ensures brief { length (bytes_of_line (refused lines (command_refusal fault).number (command_refusal fault).place)) ≤ 71 }
 {
     tally(tallies, fault);
-    write_fault(lines, fault, out, fill)
+    write_fault(lines, fault, out);
 }
 
 // Performs the command of a line that was counted.
@@ -102,36 +96,25 @@ fn hear<S: Source, T: Store<TextKey, Text>, U: Store<TallyKey, u64>>(
     register: &mut Register<S, T>,
     tallies: &mut U,
     command: Command<'_>,
-    out: &mut [u8],
-    fill: usize,
+    out: &mut Output<'_>,
 ) -> Reply
-    ensures replied { Sound (meaning S.Source.stock T.Store.pairs T.Store.capacity register.old) → T.Store.sound register.old.texts → U.Store.sound tallies.old → Replied (heard (desk S.Source.stock T.Store.pairs T.Store.capacity U.Store.pairs U.Store.capacity register.old tallies.old session) (Ok (said command.entry))) (desk S.Source.stock T.Store.pairs T.Store.capacity U.Store.pairs U.Store.capacity register.new tallies.new result.session) out.old fill out.new result }
+    ensures replied { Sound (meaning S.Source.stock T.Store.pairs T.Store.capacity register.old) → T.Store.sound register.old.texts → U.Store.sound tallies.old → Replied (heard (desk S.Source.stock T.Store.pairs T.Store.capacity U.Store.pairs U.Store.capacity register.old tallies.old session) (Ok (said command.entry))) (desk S.Source.stock T.Store.pairs T.Store.capacity U.Store.pairs U.Store.capacity register.new tallies.new result.session) out.old out.new result }
     ensures store { T.Store.sound register.old.texts → T.Store.sound register.new.texts }
     ensures tallies { U.Store.sound tallies.old → U.Store.sound tallies.new }
     ensures sound { Sound (meaning S.Source.stock T.Store.pairs T.Store.capacity register.old) → T.Store.sound register.old.texts → Sound (meaning S.Source.stock T.Store.pairs T.Store.capacity register.new) }
     ensures brief { Sound (meaning S.Source.stock T.Store.pairs T.Store.capacity register.old) → T.Store.sound register.old.texts → length (performed (meaning S.Source.stock T.Store.pairs T.Store.capacity register.old) (said command.entry)).text ≤ 4000 → length (heard (desk S.Source.stock T.Store.pairs T.Store.capacity U.Store.pairs U.Store.capacity register.old tallies.old session) (Ok (said command.entry))).text ≤ 4096 }
 {
     let OpenSession { lines, minted } = session;
-    let done = perform(register, command, out, fill);
+    let done = perform(register, command, out);
     let session = OpenSession {
         lines,
         minted: minted.saturating_add(done.minted),
     };
-    match done.fault {
-        None => Reply {
-            session,
-            fill: done.fill,
-            fault: None,
-        },
-        Some(why) => {
-            let fault = CommandFault::Register(why);
-            Reply {
-                session,
-                fill: refuse(lines, fault, tallies, out, done.fill),
-                fault: Some(fault),
-            }
-        }
+    let fault = done.fault.map(CommandFault::from);
+    if let Some(fault) = fault {
+        refuse(lines, fault, tallies, out);
     }
+    Reply { session, fault }
 }
 
 impl OpenSession {
@@ -141,69 +124,53 @@ impl OpenSession {
         register: &mut Register<S, T>,
         tallies: &mut U,
         read: Result<Command<'_>, CommandFault>,
-        out: &mut [u8],
-        fill: usize,
+        out: &mut Output<'_>,
     ) -> Reply
-        ensures replied { Sound (meaning S.Source.stock T.Store.pairs T.Store.capacity register.old) → T.Store.sound register.old.texts → U.Store.sound tallies.old → Replied (framed (length out.old - fill) (desk S.Source.stock T.Store.pairs T.Store.capacity U.Store.pairs U.Store.capacity register.old tallies.old self) (said_read read.entry)) (desk S.Source.stock T.Store.pairs T.Store.capacity U.Store.pairs U.Store.capacity register.new tallies.new result.session) out.old fill out.new result }
-        ensures unheard { (nat_le 65535 self.lines || nat_lt (length out.old - fill) 4096) ≡ true → (register.new ≡ register.old) × (tallies.new ≡ tallies.old) × (out.new ≡ out.old) × (result.session ≡ self) × (result.fill ≡ fill) }
+        ensures replied { Sound (meaning S.Source.stock T.Store.pairs T.Store.capacity register.old) → T.Store.sound register.old.texts → U.Store.sound tallies.old → Replied (framed (length out.old.bytes.now - out.old.fill) (desk S.Source.stock T.Store.pairs T.Store.capacity U.Store.pairs U.Store.capacity register.old tallies.old self) (said_read read.entry)) (desk S.Source.stock T.Store.pairs T.Store.capacity U.Store.pairs U.Store.capacity register.new tallies.new result.session) out.old out.new result }
+        ensures unheard { (nat_le 65535 self.lines || nat_lt (length out.old.bytes.now - out.old.fill) 4096) ≡ true → (register.new ≡ register.old) × (tallies.new ≡ tallies.old) × (out.new ≡ out.old) × (result.session ≡ self) }
         ensures unread { is_ok (said_read read.entry) ≡ false → register.new ≡ register.old }
         ensures store { T.Store.sound register.old.texts → T.Store.sound register.new.texts }
         ensures tallies { U.Store.sound tallies.old → U.Store.sound tallies.new }
         ensures sound { Sound (meaning S.Source.stock T.Store.pairs T.Store.capacity register.old) → T.Store.sound register.old.texts → Sound (meaning S.Source.stock T.Store.pairs T.Store.capacity register.new) }
-        ensures brief { Sound (meaning S.Source.stock T.Store.pairs T.Store.capacity register.old) → T.Store.sound register.old.texts → Within (meaning S.Source.stock T.Store.pairs T.Store.capacity register.old) (said_read read.entry) → length (framed (length out.old - fill) (desk S.Source.stock T.Store.pairs T.Store.capacity U.Store.pairs U.Store.capacity register.old tallies.old self) (said_read read.entry)).text ≤ 4096 }
+        ensures brief { Sound (meaning S.Source.stock T.Store.pairs T.Store.capacity register.old) → T.Store.sound register.old.texts → Within (meaning S.Source.stock T.Store.pairs T.Store.capacity register.old) (said_read read.entry) → length (framed (length out.old.bytes.now - out.old.fill) (desk S.Source.stock T.Store.pairs T.Store.capacity U.Store.pairs U.Store.capacity register.old tallies.old self) (said_read read.entry)).text ≤ 4096 }
     {
-        if self.lines >= LINES {
+        if let Err(fault) = admit(self.lines, out) {
             return Reply {
                 session: self,
-                fill,
-                fault: Some(CommandFault::Lines),
-            };
-        }
-        if out.len().saturating_sub(fill) < FREE {
-            return Reply {
-                session: self,
-                fill,
-                fault: Some(CommandFault::Output),
+                fault: Some(fault),
             };
         }
         let OpenSession { lines, minted } = self;
         let lines = lines + 1;
+        let session = OpenSession { lines, minted };
         match read {
-            Ok(command) => hear(
-                OpenSession { lines, minted },
-                register,
-                tallies,
-                command,
-                out,
-                fill,
-            ),
-            Err(fault) => Reply {
-                session: OpenSession { lines, minted },
-                fill: refuse(lines, fault, tallies, out, fill),
-                fault: Some(fault),
-            },
+            Ok(command) => hear(session, register, tallies, command, out),
+            Err(fault) => {
+                refuse(lines, fault, tallies, out);
+                Reply {
+                    session,
+                    fault: Some(fault),
+                }
+            }
         }
     }
-}
 
-impl OpenSession {
     // Answers a command line.
     pub fn line<S: Source, T: Store<TextKey, Text>, U: Store<TallyKey, u64>>(
         self,
         register: &mut Register<S, T>,
         tallies: &mut U,
         text: &[u8],
-        out: &mut [u8],
-        fill: usize,
+        out: &mut Output<'_>,
     ) -> Reply
-        ensures replied { Sound (meaning S.Source.stock T.Store.pairs T.Store.capacity register.old) → T.Store.sound register.old.texts → U.Store.sound tallies.old → Replied (answered (length out.old - fill) (desk S.Source.stock T.Store.pairs T.Store.capacity U.Store.pairs U.Store.capacity register.old tallies.old self) text.now) (desk S.Source.stock T.Store.pairs T.Store.capacity U.Store.pairs U.Store.capacity register.new tallies.new result.session) out.old fill out.new result }
-        ensures unheard { (nat_le 65535 self.lines || nat_lt (length out.old - fill) 4096) ≡ true → (register.new ≡ register.old) × (tallies.new ≡ tallies.old) × (out.new ≡ out.old) × (result.session ≡ self) × (result.fill ≡ fill) }
+        ensures replied { Sound (meaning S.Source.stock T.Store.pairs T.Store.capacity register.old) → T.Store.sound register.old.texts → U.Store.sound tallies.old → Replied (answered (length out.old.bytes.now - out.old.fill) (desk S.Source.stock T.Store.pairs T.Store.capacity U.Store.pairs U.Store.capacity register.old tallies.old self) text.now) (desk S.Source.stock T.Store.pairs T.Store.capacity U.Store.pairs U.Store.capacity register.new tallies.new result.session) out.old out.new result }
+        ensures unheard { (nat_le 65535 self.lines || nat_lt (length out.old.bytes.now - out.old.fill) 4096) ≡ true → (register.new ≡ register.old) × (tallies.new ≡ tallies.old) × (out.new ≡ out.old) × (result.session ≡ self) }
         ensures unread { is_ok (reads text.now) ≡ false → register.new ≡ register.old }
         ensures store { T.Store.sound register.old.texts → T.Store.sound register.new.texts }
         ensures tallies { U.Store.sound tallies.old → U.Store.sound tallies.new }
         ensures sound { Sound (meaning S.Source.stock T.Store.pairs T.Store.capacity register.old) → T.Store.sound register.old.texts → Sound (meaning S.Source.stock T.Store.pairs T.Store.capacity register.new) }
-        ensures brief { Sound (meaning S.Source.stock T.Store.pairs T.Store.capacity register.old) → T.Store.sound register.old.texts → length (answered (length out.old - fill) (desk S.Source.stock T.Store.pairs T.Store.capacity U.Store.pairs U.Store.capacity register.old tallies.old self) text.now).text ≤ 4096 }
+        ensures brief { Sound (meaning S.Source.stock T.Store.pairs T.Store.capacity register.old) → T.Store.sound register.old.texts → length (answered (length out.old.bytes.now - out.old.fill) (desk S.Source.stock T.Store.pairs T.Store.capacity U.Store.pairs U.Store.capacity register.old tallies.old self) text.now).text ≤ 4096 }
     {
-        self.frame(register, tallies, read_command(text), out, fill)
+        self.frame(register, tallies, read_command(text), out)
     }
 }

@@ -1,10 +1,12 @@
 // The opening line of a session.
-ghost use Rattle.std.specs.Prelude.{◌≡◌, ◌-◌, ◌≤◌, true, ◌||◌, length, nat_le, nat_lt};
+ghost use Rattle.std.specs.Prelude.{◌≡◌, ◌-◌, ◌≤◌, true, ◌||◌, length, MatchResult, IfOk, Ok, nat_le, nat_lt};
+ghost use Rattle.commands.specs.Forms.{opens};
 ghost use Rattle.names.specs.Reader.{read_template};
-ghost use Rattle.sessions.specs.Opening.{new_desk, turned_away, by_template, opened, Led};
+ghost use Rattle.names.specs.Templates.{form};
+ghost use Rattle.sessions.specs.Opening.{NewDesk, new_desk, turned_away, entered, opened, Led};
 ghost use Rattle.sessions.specs.Tallies.{tallies_in};
 
-use crate::line::{FREE, LINES, refuse};
+use crate::line::{admit, refuse};
 use crate::session::{NewSession, OpenSession};
 use commands::fault::CommandFault;
 use commands::opening::read_opening;
@@ -12,66 +14,28 @@ use names::template::Template;
 use reports::{Report, write_report};
 use stores::store::Store;
 use stores::tally::TallyKey;
+use texts::output::Output;
 
-// The opening line was accepted: the session, its template, and the fill after the report.
+// The opening line was accepted: the session, and its template.
 pub struct Entered {
     pub session: OpenSession,
     pub template: Template,
-    pub fill: usize,
 }
 
-// It was refused: the session, which stays new, the fill after the report, and why.
+// It was refused: the session, which stays new, and why.
 pub struct TurnedAway {
     pub session: NewSession,
-    pub fill: usize,
     pub fault: CommandFault,
 }
 
-// Refuses an opening line that was counted.
-fn turn_away<U: Store<TallyKey, u64>>(
-    lines: u64,
-    fault: CommandFault,
-    tallies: &mut U,
-    out: &mut [u8],
-    fill: usize,
-) -> Result<Entered, TurnedAway>
-    ensures led { U.Store.sound tallies.old → Led (turned_away (new_desk U.Store.pairs U.Store.capacity tallies.old lines) fault) (tallies_in (U.Store.pairs tallies.new) (U.Store.capacity tallies.new)) out.old fill out.new result }
-    ensures sound { U.Store.sound tallies.old → U.Store.sound tallies.new }
-    ensures brief { length (turned_away (new_desk U.Store.pairs U.Store.capacity tallies.old lines) fault).text ≤ 71 }
+// The text that an opening line says, and the template that it is.
+fn read_line<'a>(line: &'a [u8]) -> Result<(&'a [u8], Template), CommandFault>
+    ensures reads { MatchResult result (λ x. (opens line.now ≡ Ok x.0.now) × (read_template x.0.now ≡ Ok (form x.1))) (λ fault. (d : NewDesk) → entered d (opens line.now) ≡ turned_away d fault) }
+    ensures short { IfOk result (λ x. length x.0.now ≤ 120) }
 {
-    let fill = refuse(lines, fault, tallies, out, fill);
-    let session = NewSession { lines };
-    Err(TurnedAway {
-        session,
-        fill,
-        fault,
-    })
-}
-
-// Opens a session by the template that its line says, if it is one.
-fn enter<U: Store<TallyKey, u64>>(
-    lines: u64,
-    word: &[u8],
-    tallies: &mut U,
-    out: &mut [u8],
-    fill: usize,
-) -> Result<Entered, TurnedAway>
-    ensures led { U.Store.sound tallies.old → Led (by_template (new_desk U.Store.pairs U.Store.capacity tallies.old lines) word.now (read_template word.now)) (tallies_in (U.Store.pairs tallies.new) (U.Store.capacity tallies.new)) out.old fill out.new result }
-    ensures sound { U.Store.sound tallies.old → U.Store.sound tallies.new }
-    ensures brief { length word.now ≤ 120 → length (by_template (new_desk U.Store.pairs U.Store.capacity tallies.old lines) word.now (read_template word.now)).text ≤ 160 }
-{
-    match Template::read(word) {
-        Ok(template) => {
-            let fill = write_report(out, fill, Report::Template(word, template.total()));
-            let session = OpenSession { lines, minted: 0 };
-            Ok(Entered {
-                session,
-                template,
-                fill,
-            })
-        }
-        Err(fault) => turn_away(lines, CommandFault::Template(fault), tallies, out, fill),
-    }
+    let word = read_opening(line)?;
+    let template = Template::read(word)?;
+    Ok((word, template))
 }
 
 impl NewSession {
@@ -95,33 +59,32 @@ impl NewSession {
         self,
         tallies: &mut U,
         text: &[u8],
-        out: &mut [u8],
-        fill: usize,
+        out: &mut Output<'_>,
     ) -> Result<Entered, TurnedAway>
-        ensures led { U.Store.sound tallies.old → Led (opened (length out.old - fill) (new_desk U.Store.pairs U.Store.capacity tallies.old self.lines) text.now) (tallies_in (U.Store.pairs tallies.new) (U.Store.capacity tallies.new)) out.old fill out.new result }
-        ensures unheard { (nat_le 65535 self.lines || nat_lt (length out.old - fill) 4096) ≡ true → (tallies.new ≡ tallies.old) × (out.new ≡ out.old) }
+        ensures led { U.Store.sound tallies.old → Led (opened (length out.old.bytes.now - out.old.fill) (new_desk U.Store.pairs U.Store.capacity tallies.old self.lines) text.now) (tallies_in (U.Store.pairs tallies.new) (U.Store.capacity tallies.new)) out.old out.new result }
+        ensures unheard { (nat_le 65535 self.lines || nat_lt (length out.old.bytes.now - out.old.fill) 4096) ≡ true → (tallies.new ≡ tallies.old) × (out.new ≡ out.old) }
         ensures sound { U.Store.sound tallies.old → U.Store.sound tallies.new }
-        ensures brief { length (opened (length out.old - fill) (new_desk U.Store.pairs U.Store.capacity tallies.old self.lines) text.now).text ≤ 4096 }
+        ensures brief { length (opened (length out.old.bytes.now - out.old.fill) (new_desk U.Store.pairs U.Store.capacity tallies.old self.lines) text.now).text ≤ 4096 }
     {
-        if self.lines >= LINES {
+        if let Err(fault) = admit(self.lines, out) {
             return Err(TurnedAway {
                 session: self,
-                fill,
-                fault: CommandFault::Lines,
-            });
-        }
-        if out.len().saturating_sub(fill) < FREE {
-            return Err(TurnedAway {
-                session: self,
-                fill,
-                fault: CommandFault::Output,
+                fault,
             });
         }
         let NewSession { lines } = self;
         let lines = lines + 1;
-        match read_opening(text) {
-            Ok(word) => enter(lines, word, tallies, out, fill),
-            Err(fault) => turn_away(lines, fault, tallies, out, fill),
+        match read_line(text) {
+            Ok((word, template)) => {
+                write_report(out, Report::Template(word, template.total()));
+                let session = OpenSession { lines, minted: 0 };
+                Ok(Entered { session, template })
+            }
+            Err(fault) => {
+                refuse(lines, fault, tallies, out);
+                let session = NewSession { lines };
+                Err(TurnedAway { session, fault })
+            }
         }
     }
 }

@@ -1,14 +1,14 @@
 // What a command does to the register, and the lines that report it.
-ghost use Rattle.std.specs.Prelude.{◌≡◌, true, [], ◌∷◌, is_some};
+ghost use Rattle.std.specs.Prelude.{◌≡◌, true, [], ◌∷◌, is_some, Some, None};
 ghost use Rattle.commands.specs.Forms.{fetch, said, validate};
-ghost use Rattle.machine.specs.Calls.{Mint, Tick, asked};
+ghost use Rattle.machine.specs.Calls.{asked};
 ghost use Rattle.minter.specs.Meaning.{meaning};
 ghost use Rattle.machine.specs.Runs.{Sound};
 ghost use Rattle.machine.specs.Texts.{bytes_of};
-ghost use Rattle.texts.specs.Output.{Wrote};
+ghost use Rattle.reports.specs.Reports.{line, told};
+ghost use Rattle.texts.specs.Output.{Puts};
 ghost use Rattle.sessions.specs.Performing.{told_of, minted_by, fault_of, mints, by_calls, performed, Did};
 
-use crate::plain::clock_report;
 use commands::command::Command;
 use machine::call::{Answer, Call};
 use machine::fault::RegisterFault;
@@ -18,13 +18,34 @@ use reports::{Report, write_report};
 use sources::source::Source;
 use stores::store::Store;
 use stores::text::{Element, TextKey};
+use texts::output::Output;
 
-// What a command did: the fill after its report lines, how many names it minted, and why it was refused, if it was.
+// What a command did: how many names it minted, and why it was refused, if it was.
 #[derive(Clone, Copy)]
 pub struct Done {
-    pub fill: usize,
     pub minted: u64,
     pub fault: Option<RegisterFault>,
+}
+
+// Reports what was done; no name was minted.
+fn report(out: &mut Output<'_>, report: Report<'_>) -> Done
+    ensures text { Puts out.old (line (told report.entry)) out.new }
+    ensures done { result ≡ record { minted = 0; fault = None } }
+{
+    write_report(out, report);
+    Done {
+        minted: 0,
+        fault: None,
+    }
+}
+
+fn refused(why: RegisterFault) -> Done
+    ensures { result ≡ record { minted = 0; fault = Some why } }
+{
+    Done {
+        minted: 0,
+        fault: Some(why),
+    }
 }
 
 // Reports an answer of the register; a refusal gives no line here.
@@ -32,41 +53,24 @@ fn tell<S: Source, T: Store<TextKey, Text>>(
     register: &Register<S, T>,
     answer: Answer,
     word: &[u8],
-    out: &mut [u8],
-    fill: usize,
+    out: &mut Output<'_>,
 ) -> Done
-    ensures text { Wrote out.old fill (told_of (meaning S.Source.stock T.Store.pairs T.Store.capacity register.now).source.named word.now answer) out.new result.fill }
+    ensures text { Puts out.old (told_of (meaning S.Source.stock T.Store.pairs T.Store.capacity register.now).source.named word.now answer) out.new }
     ensures minted { result.minted ≡ minted_by answer }
     ensures fault { result.fault ≡ fault_of answer }
 {
-    let mut minted = 0;
-    let mut fault = None;
-    let fill = match answer {
-        Answer::Minted(n) => {
-            minted = 1;
-            write_report(out, fill, Report::Minted(register.name(n).as_slice()))
-        }
-        Answer::Held(n) => write_report(out, fill, Report::Held(register.name(n).as_slice())),
-        Answer::Released(n) => {
-            write_report(out, fill, Report::Released(register.name(n).as_slice()))
-        }
-        Answer::Queued(n) => write_report(out, fill, Report::Queued(register.name(n).as_slice())),
-        Answer::Ticked(second) => write_report(out, fill, clock_report(second)),
-        Answer::Bound(n) => {
-            write_report(out, fill, Report::Bound(register.name(n).as_slice(), word))
-        }
-        Answer::Purged(n) => {
-            write_report(out, fill, Report::Purged(register.name(n).as_slice(), word))
-        }
-        Answer::Refused(why) => {
-            fault = Some(why);
-            fill
-        }
-    };
-    Done {
-        fill,
-        minted,
-        fault,
+    match answer {
+        Answer::Minted(n) => Done {
+            minted: 1,
+            ..report(out, Report::Minted(register.name(n).as_slice()))
+        },
+        Answer::Held(n) => report(out, Report::Held(register.name(n).as_slice())),
+        Answer::Released(n) => report(out, Report::Released(register.name(n).as_slice())),
+        Answer::Queued(n) => report(out, Report::Queued(register.name(n).as_slice())),
+        Answer::Ticked(second) => report(out, Report::Clock(second)),
+        Answer::Bound(n) => report(out, Report::Bound(register.name(n).as_slice(), word)),
+        Answer::Purged(n) => report(out, Report::Purged(register.name(n).as_slice(), word)),
+        Answer::Refused(why) => refused(why),
     }
 }
 
@@ -75,50 +79,38 @@ fn ask<S: Source, T: Store<TextKey, Text>>(
     register: &mut Register<S, T>,
     call: Call<'_>,
     word: &[u8],
-    out: &mut [u8],
-    fill: usize,
+    out: &mut Output<'_>,
 ) -> Done
-    ensures did { Sound (meaning S.Source.stock T.Store.pairs T.Store.capacity register.old) → T.Store.sound register.old.texts → Did (by_calls (meaning S.Source.stock T.Store.pairs T.Store.capacity register.old) word.now (asked call.entry ∷ [])) (meaning S.Source.stock T.Store.pairs T.Store.capacity register.new) out.old fill out.new result }
+    ensures did { Sound (meaning S.Source.stock T.Store.pairs T.Store.capacity register.old) → T.Store.sound register.old.texts → Did (by_calls (meaning S.Source.stock T.Store.pairs T.Store.capacity register.old) word.now (asked call.entry ∷ [])) (meaning S.Source.stock T.Store.pairs T.Store.capacity register.new) out.old out.new result }
     ensures refusal { Sound (meaning S.Source.stock T.Store.pairs T.Store.capacity register.old) → T.Store.sound register.old.texts → is_some result.fault ≡ true → register.new ≡ register.old }
     ensures store { T.Store.sound register.old.texts → T.Store.sound register.new.texts }
     ensures sound { Sound (meaning S.Source.stock T.Store.pairs T.Store.capacity register.old) → T.Store.sound register.old.texts → Sound (meaning S.Source.stock T.Store.pairs T.Store.capacity register.new) }
 {
     let answer = register.serve(&call);
-    tell(register, answer, word, out, fill)
-}
-
-fn mint_call<'a>() -> Call<'a>
-    ensures { asked result ≡ Mint }
-{
-    Call::Mint
+    tell(register, answer, word, out)
 }
 
 // Mints so many names, and none after a refused mint.
 fn mint_names<S: Source, T: Store<TextKey, Text>>(
     register: &mut Register<S, T>,
     count: u64,
-    out: &mut [u8],
-    fill: usize,
+    out: &mut Output<'_>,
 ) -> Done
-    ensures did { Sound (meaning S.Source.stock T.Store.pairs T.Store.capacity register.old) → T.Store.sound register.old.texts → Did (by_calls (meaning S.Source.stock T.Store.pairs T.Store.capacity register.old) [] (mints count (meaning S.Source.stock T.Store.pairs T.Store.capacity register.old))) (meaning S.Source.stock T.Store.pairs T.Store.capacity register.new) out.old fill out.new result }
+    ensures did { Sound (meaning S.Source.stock T.Store.pairs T.Store.capacity register.old) → T.Store.sound register.old.texts → Did (by_calls (meaning S.Source.stock T.Store.pairs T.Store.capacity register.old) [] (mints count (meaning S.Source.stock T.Store.pairs T.Store.capacity register.old))) (meaning S.Source.stock T.Store.pairs T.Store.capacity register.new) out.old out.new result }
     ensures refusal { Sound (meaning S.Source.stock T.Store.pairs T.Store.capacity register.old) → T.Store.sound register.old.texts → is_some result.fault ≡ true → result.minted ≡ 0 → register.new ≡ register.old }
     ensures store { T.Store.sound register.old.texts → T.Store.sound register.new.texts }
     ensures sound { Sound (meaning S.Source.stock T.Store.pairs T.Store.capacity register.old) → T.Store.sound register.old.texts → Sound (meaning S.Source.stock T.Store.pairs T.Store.capacity register.new) }
 {
-    let mut at = fill;
     for i in 0..count {
-        let one = ask(register, mint_call(), b"", out, at);
-        at = one.fill;
+        let one = ask(register, Call::Mint, b"", out);
         if one.fault.is_some() {
             return Done {
-                fill: at,
                 minted: i,
                 fault: one.fault,
             };
         }
     }
     Done {
-        fill: at,
         minted: count,
         fault: None,
     }
@@ -137,27 +129,17 @@ fn fetch_text<S: Source, T: Store<TextKey, Text>>(
     name: &[u8],
     word: &[u8],
     element: Option<Element>,
-    out: &mut [u8],
-    fill: usize,
+    out: &mut Output<'_>,
 ) -> Done
-    ensures { T.Store.sound register.now.texts → Did (performed (meaning S.Source.stock T.Store.pairs T.Store.capacity register.now) (fetch name.now word.now element)) (meaning S.Source.stock T.Store.pairs T.Store.capacity register.now) out.old fill out.new result }
+    ensures { T.Store.sound register.now.texts → Did (performed (meaning S.Source.stock T.Store.pairs T.Store.capacity register.now) (fetch name.now word.now element)) (meaning S.Source.stock T.Store.pairs T.Store.capacity register.now) out.old out.new result }
 {
     let mut text = blank();
     match register.fetch(name, element, &mut text) {
         Ok(n) => {
             let name = register.name(n);
-            let report = Report::Fetched(name.as_slice(), word, text.as_slice());
-            Done {
-                fill: write_report(out, fill, report),
-                minted: 0,
-                fault: None,
-            }
+            report(out, Report::Fetched(name.as_slice(), word, text.as_slice()))
         }
-        Err(why) => Done {
-            fill,
-            minted: 0,
-            fault: Some(why),
-        },
+        Err(why) => refused(why),
     }
 }
 
@@ -165,67 +147,40 @@ fn fetch_text<S: Source, T: Store<TextKey, Text>>(
 fn validate_name<S: Source, T: Store<TextKey, Text>>(
     register: &Register<S, T>,
     name: &[u8],
-    out: &mut [u8],
-    fill: usize,
+    out: &mut Output<'_>,
 ) -> Done
-    ensures { Did (performed (meaning S.Source.stock T.Store.pairs T.Store.capacity register.now) (validate name.now)) (meaning S.Source.stock T.Store.pairs T.Store.capacity register.now) out.old fill out.new result }
+    ensures { Did (performed (meaning S.Source.stock T.Store.pairs T.Store.capacity register.now) (validate name.now)) (meaning S.Source.stock T.Store.pairs T.Store.capacity register.now) out.old out.new result }
 {
     match register.validate(name) {
-        Ok(n) => {
-            let name = register.name(n);
-            Done {
-                fill: write_report(out, fill, Report::Valid(name.as_slice())),
-                minted: 0,
-                fault: None,
-            }
-        }
-        Err(why) => Done {
-            fill,
-            minted: 0,
-            fault: Some(why),
-        },
+        Ok(n) => report(out, Report::Valid(register.name(n).as_slice())),
+        Err(why) => refused(why),
     }
 }
 
-fn tick_call<'a>(second: u64) -> Call<'a>
-    ensures { asked result ≡ Tick second }
-{
-    Call::Tick(second)
-}
-
-// Performs a command: what it asks is put to the register, and reported from the fill on.
+// Performs a command: what it asks is put to the register, and reported.
 pub fn perform<S: Source, T: Store<TextKey, Text>>(
     register: &mut Register<S, T>,
     command: Command<'_>,
-    out: &mut [u8],
-    fill: usize,
+    out: &mut Output<'_>,
 ) -> Done
-    ensures did { Sound (meaning S.Source.stock T.Store.pairs T.Store.capacity register.old) → T.Store.sound register.old.texts → Did (performed (meaning S.Source.stock T.Store.pairs T.Store.capacity register.old) (said command.entry)) (meaning S.Source.stock T.Store.pairs T.Store.capacity register.new) out.old fill out.new result }
+    ensures did { Sound (meaning S.Source.stock T.Store.pairs T.Store.capacity register.old) → T.Store.sound register.old.texts → Did (performed (meaning S.Source.stock T.Store.pairs T.Store.capacity register.old) (said command.entry)) (meaning S.Source.stock T.Store.pairs T.Store.capacity register.new) out.old out.new result }
     ensures refusal { Sound (meaning S.Source.stock T.Store.pairs T.Store.capacity register.old) → T.Store.sound register.old.texts → is_some result.fault ≡ true → result.minted ≡ 0 → register.new ≡ register.old }
     ensures store { T.Store.sound register.old.texts → T.Store.sound register.new.texts }
     ensures sound { Sound (meaning S.Source.stock T.Store.pairs T.Store.capacity register.old) → T.Store.sound register.old.texts → Sound (meaning S.Source.stock T.Store.pairs T.Store.capacity register.new) }
 {
     match command {
-        Command::Mint(count) => mint_names(register, count, out, fill),
-        Command::HoldSet(name) => ask(register, Call::Hold(name), b"", out, fill),
-        Command::HoldRelease(name) => ask(register, Call::Release(name), b"", out, fill),
-        Command::Queue(name, delay) => ask(register, Call::Queue(name, delay), b"", out, fill),
-        Command::Tick(second) => ask(register, tick_call(second), b"", out, fill),
-        Command::BindSet(name, word, element, text) => ask(
-            register,
-            Call::Bind(name, element, text),
-            word,
-            out,
-            fill,
-        ),
-        Command::BindPurge(name, word, element) => ask(
-            register,
-            Call::Purge(name, element),
-            word,
-            out,
-            fill,
-        ),
-        Command::Fetch(name, word, element) => fetch_text(register, name, word, element, out, fill),
-        Command::Validate(name) => validate_name(register, name, out, fill),
+        Command::Mint(count) => mint_names(register, count, out),
+        Command::HoldSet(name) => ask(register, Call::Hold(name), b"", out),
+        Command::HoldRelease(name) => ask(register, Call::Release(name), b"", out),
+        Command::Queue(name, delay) => ask(register, Call::Queue(name, delay), b"", out),
+        Command::Tick(second) => ask(register, Call::Tick(second), b"", out),
+        Command::BindSet(name, word, element, text) => {
+            ask(register, Call::Bind(name, element, text), word, out)
+        }
+        Command::BindPurge(name, word, element) => {
+            ask(register, Call::Purge(name, element), word, out)
+        }
+        Command::Fetch(name, word, element) => fetch_text(register, name, word, element, out),
+        Command::Validate(name) => validate_name(register, name, out),
     }
 }

@@ -7,6 +7,8 @@ use Rattle.sessions.proofs.perform.mint_names.Given as goal
 abbrev pub invariant-loop-i : goal.invariant-loop-i
 invariant-loop-i g l =
     let m = meaning g.S.Source.stock g.T.Store.pairs g.T.Store.capacity in
-    (Sound (m l.initial.register) → g.T.Store.sound l.initial.register.texts → Minting (g.T.Store.sound l.register.texts) (m l.initial.register) (m l.register) l.count l.i l.initial.out l.initial.at l.out l.at)
-    × (l.i ≡ 0 → l.register ≡ l.initial.register)
-    × (g.T.Store.sound l.initial.register.texts → g.T.Store.sound l.register.texts)
+    record {
+      minting : Sound (m l.initial.register) → g.T.Store.sound l.initial.register.texts → Minting (g.T.Store.sound l.register.texts) (m l.initial.register) (m l.register) l.count l.i l.initial.out l.out;
+      untouched : l.i ≡ 0 → l.register ≡ l.initial.register;
+      store : g.T.Store.sound l.initial.register.texts → g.T.Store.sound l.register.texts;
+    }
