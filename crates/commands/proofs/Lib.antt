@@ -1,4 +1,5 @@
 pub mod Brief
+pub mod Fairness
 pub mod Numbers
 pub mod Places
 pub mod Refusals

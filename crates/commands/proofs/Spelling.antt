@@ -1,8 +1,8 @@
 -- A line that is read is a fair command typed out. Assumes nothing.
-use Rattle.std.proofs.Common.{◌≡◌, ℕ, ◌+◌, ◌<◌, ◌≤◌, Bool, true, false, cond, eqb, ltb, List, [], ◌∷◌, ◌++◌, map, length, drop, Some, None, Ok, Err, codes, Option, Result, sym, refl, ap, ◌∙◌, subst, inl, inr, append-nil, append_assoc, length-append, arith}
-use Rattle.commands.specs.Forms.{Said, bind_set, then, known, then_word, then_known, done, held_by, bound_by, form, spoken, reads, opening, opens, short}
+use Rattle.std.proofs.Common.{◌≡◌, ℕ, ◌+◌, ◌<◌, Bool, true, false, cond, eqb, List, [], ◌∷◌, ◌++◌, map, length, drop, Some, None, Ok, Err, codes, Option, Result, sym, refl, ap, ◌∙◌, subst, inl, inr, append-nil, append_assoc, length-append, arith}
+use Rattle.commands.specs.Forms.{Said, bind_set, then, known, then_word, then_known, done, held_by, bound_by, form, spoken, opening}
 use Rattle.commands.specs.Numbers.{number, count, delay}
-use Rattle.commands.specs.Spelling.{with_spaces, Spelt, Worded, Fair, Reading, Opened}
+use Rattle.commands.specs.Spelling.{with_spaces, Spelt, Worded, Fair}
 use Rattle.commands.specs.Words.{Word, words, texts, pick, heads, openings, turns, edits, elements}
 use Rattle.commands.specs.declared.fault.CommandFault.{CommandFault}
 use Rattle.commands.specs.declared.fault.CommandFault.TheVariants.{Line}
@@ -14,7 +14,7 @@ use Rattle.commands.specs.declared.word.Turn.{Turn}
 use Rattle.commands.specs.declared.word.Turn.TheVariants as turn
 use Rattle.commands.proofs.Numbers.{number_ok, range_ok, delay_ok}
 use Rattle.commands.proofs.Places.{words_first, after}
-use Rattle.std.proofs.lemmas.Bool.{eqb-true, eqb-false, ltb-false}
+use Rattle.std.proofs.lemmas.Bool.{eqb-true, eqb-false}
 use Rattle.std.proofs.lemmas.List.{drop_at}
 use Rattle.std.proofs.lemmas.Slice.Eq.{bytes_eq-Decides}
 use Rattle.std.specs.Str.{bytes_eq}
@@ -213,17 +213,3 @@ opening_read line template e =
     let d = done_at line _ template p.more _ p.at p.goes_on in
     let t = picked (λ _. codes "template") openings k.word.text k.means refl k.meant in
     (d.0 ∙ (λ i. with_spaces (t i ∷ d.1 i ∷ [])), subst Worded d.1 p.fair)
-
--- what is read has at most 120 bytes
-short_ok : {X : Type 0} (line : List ℕ) (r : Result X CommandFault) (x : X) → short line r ≡ Ok x → (length line ≤ 120) × (r ≡ Ok x)
-short_ok {X} line r x e = go (ltb 120 (length line)) refl e
-  where
-    go : (v : Bool) → ltb 120 (length line) ≡ v → cond v (Err (Line 120)) r ≡ Ok x → (length line ≤ 120) × (r ≡ Ok x)
-    go true s h = absurd (cc)
-    go false s h = (ltb-false 120 (length line) s, h)
-
-pub reading : (line : List ℕ) (c : Said) → reads line ≡ Ok c → Reading line c
-reading line c e = let s = short_ok line (spoken line) c e in let r = spoken_read line c s.1 in record { spelt = r.0; fair = r.1; short = s.0 }
-
-pub opened : (line template : List ℕ) → opens line ≡ Ok template → Opened line template
-opened line template e = let s = short_ok line (opening line) template e in let r = opening_read line template s.1 in record { spelt = r.0; fair = r.1; short = s.0 }

@@ -11,6 +11,7 @@ pub(crate) trait Keyword: Sized {
     fn named(text: &str) -> Option<Self>
         ensures { result ≡ pick table text.now };
 
+    // so that bytes that are no text are none of the words
     ghost plain: { all_plain table ≡ true };
 }
 

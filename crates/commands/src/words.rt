@@ -14,7 +14,7 @@ pub(crate) struct Word<'a> {
     pub(crate) text: &'a [u8],
 }
 
-// The words of a line from a place on; from past its end on it has none.
+// The words of a line from a place on; from past its end on it has none. The place is kept, and not the rest alone, since a refusal tells it.
 #[derive(Drop)]
 pub(crate) struct Words<'a> {
     line: &'a [u8],

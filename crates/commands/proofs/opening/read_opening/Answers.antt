@@ -4,7 +4,7 @@ use Rattle.commands.specs.Forms.{opens, template_read}
 use Rattle.commands.specs.Refusals.{IsOpening, Refused}
 use Rattle.commands.specs.Spelling.{Opened, with_spaces}
 use Rattle.commands.specs.declared.fault.CommandFault.{CommandFault}
-use Rattle.commands.proofs.Spelling.{opened}
+use Rattle.commands.proofs.Fairness.{opened}
 use Rattle.commands.proofs.Refusals.{opens_refused}
 use Rattle.commands.proofs.Typing.{spelt_opens}
 use Rattle.commands.proofs.opening.read_opening.Goals as goal

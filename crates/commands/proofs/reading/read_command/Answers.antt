@@ -6,7 +6,7 @@ use Rattle.commands.specs.Refusals.{IsCommand, Refused}
 use Rattle.commands.specs.Spelling.{Reading, Spelt}
 use Rattle.commands.specs.declared.command.Command.{Command}
 use Rattle.commands.specs.declared.fault.CommandFault.{CommandFault}
-use Rattle.commands.proofs.Spelling.{reading}
+use Rattle.commands.proofs.Fairness.{reading}
 use Rattle.commands.proofs.Refusals.{reads_refused}
 use Rattle.commands.proofs.Typing.{spelt_reads}
 use Rattle.commands.proofs.reading.read_command.Goals as goal
