@@ -1,4 +1,4 @@
-use Rattle.std.proofs.Common.{arith, rules}
+use Rattle.std.proofs.Common.{rules}
 use Rattle.chains.proofs.Gathers.{kept, look_pairs}
 use Rattle.stores.proofs.Laws.{Lawful}
 use Rattle.chains.proofs.store.ChainStore.get.Goals as goal
@@ -13,6 +13,6 @@ returns g c =
     let k = c.args.k.now in
     record {
       kept = kept al bk L ns;
-      answer = λ s. grind (arith, look_pairs al bk L ns s k);
-      place = λ s. grind (arith, look_pairs al bk L ns s k);
+      answer = λ s. let l = look_pairs al bk L ns s k in cc;
+      place = λ s. let l = look_pairs al bk L ns s k in cc;
     }

@@ -18,7 +18,7 @@ returns g c =
     record {
       sound = put_stays al bk L ns ns' k v e;
       capacity = put_room al bk L ns ns' k v e;
-      answer = λ s. grind (arith, full_is al bk L ns s k);
+      answer = λ s. let l = full_is al bk L ns s k in cc;
       refusal = λ s f. grind (arith, put_refused al bk L ns ns' k v e s f);
       found = put_found al bk L ns ns' k v e;
       many = put_many al bk L ns ns' k v e;

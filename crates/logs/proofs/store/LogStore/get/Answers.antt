@@ -1,4 +1,4 @@
-use Rattle.std.proofs.Common.{arith, rules}
+use Rattle.std.proofs.Common.{rules}
 use Rattle.logs.specs.Logs.{book}
 use Rattle.logs.proofs.Books.{kept, look_pairs}
 use Rattle.stores.proofs.Laws.{Lawful}
@@ -11,6 +11,6 @@ returns g c =
     let b = book c.args.self.now.entries.now c.args.self.now.fill in
     record {
       kept = kept g.K.Key.alike g.K.Key.bucket L b;
-      answer = λ s. grind (arith, look_pairs g.K.Key.alike g.K.Key.bucket L b s c.args.k.now);
-      place = λ s. grind (arith, look_pairs g.K.Key.alike g.K.Key.bucket L b s c.args.k.now);
+      answer = λ s. let l = look_pairs g.K.Key.alike g.K.Key.bucket L b s c.args.k.now in cc;
+      place = λ s. let l = look_pairs g.K.Key.alike g.K.Key.bucket L b s c.args.k.now in cc;
     }

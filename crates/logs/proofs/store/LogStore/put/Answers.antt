@@ -18,7 +18,7 @@ returns g c =
     record {
       sound = put_stays al bk L b b' k v e;
       capacity = put_room al bk L b b' k v e;
-      answer = λ s. grind (arith, full_is al bk L b s k);
+      answer = λ s. let l = full_is al bk L b s k in cc;
       refusal = λ s f. grind (arith, put_refused al bk L b b' k v e s f);
       found = put_found al bk L b b' k v e;
       many = put_many al bk L b b' k v e;
