@@ -1,6 +1,7 @@
 -- The log: what each call answers and leaves, on any list of records, and which pairs it has.
 -- Book, book: the records, how many of them are in use and how many pairs they make
 -- written: the records in use
+-- key_of, value_in: the key of a record, and the value that it gives its key
 -- names, named: whether a record, or one of some, is of a key
 -- tells, told: what a record, and what some, make of a key's value; the last one of the key decides
 -- lasts, live: the last put of each key that has a pair
@@ -32,7 +33,6 @@ book es f = record { entries = es; used = f.used; count = f.count }
 abbrev pub written : {K V : Type 0} → Book K V → List (Entry K V)
 written b = take b.used b.entries
 
--- the key of a record, and the value that it gives the key
 abbrev pub key_of : {K V : Type 0} → Entry K V → K
 key_of (Put k v) = k
 key_of (Dropped k) = k
