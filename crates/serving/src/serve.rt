@@ -53,8 +53,7 @@ fn serve_open<T: Store<TextKey, Text> + Drop, U: Store<TallyKey, u64>>(
     let source = Generator::new(ByLetter::of(&template), template);
     let mut register = Register::open(room, source, texts);
     let session = answer_lines(session, &mut register, tallies, lines, out);
-    let ended = session.end(tallies, out).unwrap();
-    ended.close();
+    session.end(tallies, out).unwrap().close();
 }
 
 // A session over a store for texts and one for tallies, both with no pair.
