@@ -81,13 +81,16 @@ fn serve_session<T: Store<TextKey, Text> + Drop, U: Store<TallyKey, u64>>(
     }
 }
 
-// The lines of an input that is not too long, in an output that has room for them.
-fn serve_lines(memory: Memory, input: &[u8], out: &mut Output<'_>)
-    requires room { out.old.fill + 4096 * (length (pieces 10 input.now) + 1) ≤ length out.old.bytes.now }
-    ensures text { Puts out.old (session_text unread (pieces 10 input.now)) out.new }
+// A whole input, into an output that has room for its reports.
+fn serve_input(memory: Memory, input: &[u8], out: &mut Output<'_>)
+    requires room { out.old.fill + needed input.now ≤ length out.old.bytes.now }
+    ensures text { Puts out.old (report input.now) out.new }
     ensures whole { out.new.fill < length out.new.bytes.now }
-    ensures ruled { RuledInput input.now }
+    ensures ruled { length input.now ≤ 32768 → RuledInput input.now }
 {
+    if input.len() > LONGEST {
+        return write_fault(0, CommandFault::Input, out);
+    }
     let Memory {
         room,
         mut nodes,
@@ -123,11 +126,7 @@ pub fn serve_in(memory: Memory, input: &[u8], out: &mut [u8]) -> Result<usize, C
     if out.free() < bytes_needed(input) {
         return Err(CommandFault::Output);
     }
-    if input.len() > LONGEST {
-        write_fault(0, CommandFault::Input, &mut out);
-    } else {
-        serve_lines(memory, input, &mut out);
-    }
+    serve_input(memory, input, &mut out);
     Ok(out.fill)
 }
 
