@@ -1,44 +1,40 @@
 -- A table whose free chain has every record past the heads is sound and has no pair.
-use Rattle.std.proofs.Common.{◌≡◌, ℕ, zero, suc, ◌+◌, ◌-◌, ◌<◌, ◌≤◌, Bool, true, cond, ltb, List, [], length, get_or, sym, refl, ap, ◌∙◌, subst, ⊎_elim, arith, le-ltb, lt-ltb}
-use borrow.Author.Tests.{clash}
+use Rattle.std.proofs.Common.{◌≡◌, ℕ, zero, suc, ◌+◌, ◌-◌, ◌<◌, ◌≤◌, Bool, true, List, [], length, get_or, set, sym, refl, ap, ◌∙◌, ⊎_elim, arith}
+use lib.ListN.{length-map}
+use lib.Seq.{map-set}
 use Rattle.std.proofs.lemmas.Bool.{cases_eq}
-use Rattle.std.specs.List.{range_with_len}
-use Rattle.std.proofs.lemmas.List.FromFn.{length-range_with_len}
+use Rattle.std.specs.List.{range_with_len, flat_map}
+use Rattle.std.proofs.lemmas.List.{nil_from_length}
+use Rattle.std.proofs.lemmas.List.Edits.{fill_by_more}
+use Rattle.std.proofs.lemmas.List.FromFn.{length-range_with_len, fill_by_all}
+use Rattle.chains.specs.declared.node.Node.{Node}
 use Rattle.chains.specs.Chains.{run, Ends, has, chain, in_use, Linked, laid}
-use Rattle.chains.specs.Tables.{Sound}
+use Rattle.chains.specs.Tables.{table, fresh_table, Sound, pairs, pair_at}
+use Rattle.chains.proofs.Columns.{same_table}
 use Rattle.chains.proofs.Walks.{run_ends, run_zero}
 use Rattle.chains.proofs.Shifts.{in_use_more, in_use_none}
 
-laid_head : (n i : ℕ) → i < 16 → laid n i ≡ 0
-laid_head n i h = ap (λ (b : Bool). cond b 0 (cond (ltb (i + 1) n) (i + 1) 0)) (lt-ltb i 16 h)
-
-laid_next : (n i : ℕ) → 16 ≤ i → i + 1 < n → laid n i ≡ i + 1
-laid_next n i h l = ap (λ (b : Bool). cond b 0 (cond (ltb (i + 1) n) (i + 1) 0)) (le-ltb i 16 h) ∙ ap (λ (b : Bool). cond b (i + 1) 0) (lt-ltb (i + 1) n l)
-
-laid_last : (n i : ℕ) → 16 ≤ i → n ≤ i + 1 → laid n i ≡ 0
-laid_last n i h l = ap (λ (b : Bool). cond b 0 (cond (ltb (i + 1) n) (i + 1) 0)) (le-ltb i 16 h) ∙ ap (λ (b : Bool). cond b (i + 1) 0) (le-ltb (i + 1) n l)
-
 module _ (ls : List ℕ) (L : (i : ℕ) → i < length ls → get_or ls i 0 ≡ laid (length ls) i) (long : 18 ≤ length ls) (short : length ls ≤ 65536) where
   climb : (m i : ℕ) → 17 ≤ i → i + suc m ≡ length ls → Ends ls i (range_with_len i (suc m))
-  climb zero i l e = (refl, l, omega arith, L i (omega arith) ∙ laid_last (length ls) i (omega arith) (omega arith))
+  climb zero i l e = (refl, l, omega arith, grind (arith, L i))
   climb (suc m) i l e =
-      let next : get_or ls i 0 ≡ i + 1 = L i (omega arith) ∙ laid_next (length ls) i (omega arith) (omega arith) in
-      (refl, l, omega arith, subst (λ (y : ℕ). Ends ls y (range_with_len (i + 1) (suc m))) (sym next) (climb m (i + 1) (omega arith) (omega arith)))
+      let next : get_or ls i 0 ≡ i + 1 = grind (arith, L i) in
+      (refl, l, omega arith, rw next (climb m (i + 1) (omega arith) (omega arith)))
 
   heads : (h : ℕ) → h < 16 → get_or ls h 0 ≡ 0
-  heads h l = L h (omega arith) ∙ laid_head (length ls) h l
+  heads h l = grind (arith, L h)
 
   bare : (h : ℕ) → h < 16 → chain ls h ≡ []
   bare h l = ap (run (length ls) ls) (heads h l) ∙ run_zero (length ls) ls
 
   first : get_or ls 16 0 ≡ 17
-  first = L 16 (omega arith) ∙ laid_next (length ls) 16 (omega arith) (omega arith)
+  first = grind (arith, L 16)
 
   abbrev free : List ℕ
   free = range_with_len 17 (suc (length ls - 18))
 
   free_ends : Ends ls (get_or ls 16 0) free
-  free_ends = subst (λ (y : ℕ). Ends ls y free) (sym first) (climb (length ls - 18) 17 (omega arith) (omega arith))
+  free_ends = rw first (climb (length ls - 18) 17 (omega arith) (omega arith))
 
   free_is : chain ls 16 ≡ free
   free_is = run_ends free (length ls) ls (get_or ls 16 0) free_ends (omega (arith, length-range_with_len 17 (suc (length ls - 18))))
@@ -51,18 +47,18 @@ module _ (ls : List ℕ) (L : (i : ℕ) → i < length ls → get_or ls i 0 ≡ 
   free_count = omega (arith, ap length free_is, length-range_with_len 17 (suc (length ls - 18)))
 
   nowhere : (h x : ℕ) → h < 16 → has x (chain ls h) ≡ true → ⊥
-  nowhere h x l t = clash (subst (λ (ws : List ℕ). has x ws ≡ true) (bare h l) t)
+  nowhere h x l t = grind (arith, bare h l)
 
   sixteen : (h x : ℕ) → h < 17 → has x (chain ls h) ≡ true → h ≡ 16
-  sixteen h x l t = ⊎_elim (λ (e : h ≡ 16). e) (λ (n : h ≡ 16 → ⊥). absurd (nowhere h x (omega arith) t)) (cases_eq h 16)
+  sixteen h x l t = grind (arith, nowhere h x)
 
   pub fresh_linked : Linked ls
   fresh_linked = record {
     long = long;
     short = short;
     ends = λ h l.
-        ⊎_elim (λ (e : h ≡ 16). subst (λ (z : ℕ). Ends ls (get_or ls z 0) (chain ls z)) (sym e) (subst (λ (ws : List ℕ). Ends ls (get_or ls 16 0) ws) (sym free_is) free_ends))
-        (λ (n : h ≡ 16 → ⊥). let s : h < 16 = omega arith in subst (λ (ws : List ℕ). Ends ls (get_or ls h 0) ws) (sym (bare h s)) (heads h s))
+        ⊎_elim (λ (e : h ≡ 16). rw (e, free_is) free_ends)
+        (λ (n : h ≡ 16 → ⊥). let s : h < 16 = omega arith in rw (bare h s) (heads h s))
         (cases_eq h 16);
     apart = λ h i x l k s t. sixteen h x l s ∙ sym (sixteen i x k t);
     all = omega (arith, in_use_more ls 16, nought 16 (omega arith), free_count);
@@ -77,3 +73,32 @@ module _ (ls : List ℕ) (L : (i : ℕ) → i < length ls → get_or ls i 0 ≡ 
     homed = λ h x l t. absurd (nowhere h x l t);
     lone = λ k x y t. absurd (nowhere (bucket k) x (small k) t);
   }
+
+-- one more record laid out
+pub laid_more : {K V : Type 0} (f : ℕ → ℕ) (ns : List (Node K V)) (i : ℕ) (m : Node K V) → i < length ns → m.next ≡ f i
+    → ((k : ℕ) → k < i → get_or (table ns).links k 0 ≡ f k) → (k : ℕ) → k < i + 1 → get_or (table (set ns i m)).links k 0 ≡ f k
+laid_more f ns i m h e L k l =
+    ap (λ (zs : List ℕ). get_or zs k 0) (map-set (λ n. n.next) ns i m ∙ ap (set (table ns).links i) e) ∙ fill_by_more f (table ns).links i 0 (rw length-map h) L k l
+
+-- what is left once every record was laid out
+module _ {K V : Type 0} (alike : K → K → Bool) (bucket : K → ℕ) where
+  pub record Formatted (old ns : List (Node K V)) : Type 0 where
+    pub after : table ns ≡ fresh_table (table old)
+    pub sound : Sound alike bucket (table ns)
+    pub empty : pairs ns ≡ []
+
+  pub formatted : ((x : K) → bucket x < 16) → (old ns : List (Node K V)) → length ns ≡ length old → 18 ≤ length old → length old ≤ 65536
+      → ((k : ℕ) → k < length old → get_or (table ns).links k 0 ≡ laid (length old) k) → (table ns).keys ≡ (table old).keys → (table ns).values ≡ (table old).values
+      → Formatted old ns
+  formatted small old ns size long short L ks vs =
+      let n = length (table old).links in
+      let ls = (table ns).links in
+      let m : n ≡ length old = length-map old (λ n. n.next) in
+      let s : length ls ≡ length old = length-map ns (λ n. n.next) ∙ size in
+      let L' : (k : ℕ) → k < length ls → get_or ls k 0 ≡ laid (length ls) k = λ k h. L k (omega arith) ∙ ap (λ (j : ℕ). laid j k) (sym s) in
+      record {
+        after = same_table (table ns) (fresh_table (table old)) (fill_by_all (laid n) ls n 0 (s ∙ sym m) (λ k h. L k (omega arith) ∙ ap (λ (j : ℕ). laid j k) (sym m))) ks vs;
+        sound = fresh_sound ls L' (omega arith) (omega arith) alike bucket small (table ns).keys (table ns).values
+            (length-map ns (λ n. n.key) ∙ sym (length-map ns (λ n. n.next))) (length-map ns (λ n. n.value) ∙ sym (length-map ns (λ n. n.next)));
+        empty = ap (flat_map (pair_at ns)) (nil_from_length (in_use ls 16) (nought ls L' (omega arith) (omega arith) 16 (omega arith)));
+      }

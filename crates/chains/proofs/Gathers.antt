@@ -1,15 +1,15 @@
 -- The pairs of a sound table: what is found in them, that no two have the same key, and how many they are.
-use Rattle.std.proofs.Common.{◌≡◌, ℕ, zero, suc, ◌+◌, ◌<◌, ◌≤◌, Bool, true, false, cond, not, ◌&&◌, eqb, ltb, leb, ◌⊎◌, List, [], ◌∷◌, ◌++◌, map, length, get_or, is_some, Some, None, Option, sym, refl, ap, ◌∙◌, subst, inl, inr, ⊎_elim, arith, length-append, le-ltb, lt-ltb, eq-eqb, ne_eqb, le-leb}
+use Rattle.std.proofs.Common.{◌≡◌, ℕ, zero, suc, ◌+◌, ◌<◌, ◌≤◌, Bool, true, false, cond, not, ◌&&◌, eqb, ltb, leb, List, [], ◌∷◌, ◌++◌, map, length, get_or, is_some, Some, None, sym, refl, ap, ◌∙◌, subst, ⊎_elim, arith, length-append}
 use lib.ListN.{length-map}
-use borrow.Author.Tests.{both_ways, clash, lt-leb}
 use Rattle.std.specs.List.{flat_map}
-use Rattle.std.proofs.lemmas.Bool.{cases_eq, cases_Bool, cases_lt}
+use Rattle.std.proofs.lemmas.Bool.{cases_eq, cases_Bool, cases_lt, false_from_ne_true, le-ltb, lt-ltb}
+use Rattle.std.proofs.lemmas.List.Folds.{list_any-append}
 use Rattle.chains.specs.declared.node.Node.{Node}
 use Rattle.chains.specs.Chains.{run, Ends, seek, has, chain, in_use, Linked}
 use Rattle.stores.specs.Pairs.{look, Lone, Kept, full}
 use Rattle.chains.specs.Tables.{table, marks, held, found, free, spot, Sound, pairs, pair_at, room}
 use Rattle.stores.proofs.Laws.{Lawful}
-use Rattle.chains.proofs.Moves.{has_some, here, there, fresh, suffix}
+use Rattle.chains.proofs.Moves.{fresh, suffix}
 use Rattle.chains.proofs.Seeks.{seek_nought, held_some}
 use Rattle.chains.proofs.Shifts.{in_use_more, free_inside}
 use Rattle.chains.proofs.Walks.{run_zero, seek_within}
@@ -38,50 +38,23 @@ module _ {K V : Type 0} (ns : List (Node K V)) where
   pub length_joined : (xs : List ℕ) → ((y : ℕ) → has y xs ≡ true → y < length ns) → length (flat_map (pair_at ns) xs) ≡ length xs
   length_joined [] f = refl
   length_joined (x ∷ xs) f =
-      let ih = length_joined xs (λ y h. f y (there y x xs h)) in
-      omega (arith, ih, length-append (pair_at ns x) (flat_map (pair_at ns) xs), length_at ns x (f x (here x x xs refl)))
+      let ih = length_joined xs (λ y h. f y (grind arith)) in
+      omega (arith, ih, length-append (pair_at ns x) (flat_map (pair_at ns) xs), length_at ns x (f x (grind arith)))
 
   pub look_joined : (alike : K → K → Bool) (q : K) (xs : List ℕ) → ((y : ℕ) → has y xs ≡ true → 0 < y) →
       look alike (flat_map (pair_at ns) xs) q ≡ held (table ns).values (seek (marks alike q (table ns).keys) xs)
   look_joined alike q [] f = refl
   look_joined alike q (x ∷ xs) f =
-      let ms = marks alike q (table ns).keys in
-      let vs = (table ns).values in
-      let rest = flat_map (pair_at ns) xs in
-      let o = get_or (map (λ v. Some v) vs) x None in
-      let ih = look_joined alike q xs (λ y h. f y (there y x xs h)) in
-      let z : eqb x 0 ≡ false = ne_eqb x 0 (λ e. omega (arith, f x (here x x xs refl), e)) in
-      look_at alike q rest ns x ∙
-      ⊎_elim (λ (e : get_or ms x false ≡ true).
-      ap (λ (b : Bool). cond b o (look alike rest q)) e ∙ sym (ap (λ (b : Bool). cond b None o) z) ∙ sym (ap (λ (b : Bool). held vs (cond b x (seek ms xs))) e))
-      (λ (e : get_or ms x false ≡ false).
-      ap (λ (b : Bool). cond b o (look alike rest q)) e ∙ ih ∙ sym (ap (λ (b : Bool). held vs (cond b x (seek ms xs))) e))
-      (cases_Bool (get_or ms x false))
+      grind (arith, look_at alike q (flat_map (pair_at ns) xs) ns x, look_joined alike q xs (λ y h. f y (grind arith)), f x (grind arith))
 
 -- no record stands twice
 abbrev Once : List ℕ → Type 0
 Once [] = Unit {0}
 Once (x ∷ xs) = (has x xs ≡ false) × Once xs
 
-has_append : (y : ℕ) (xs ys : List ℕ) → has y (xs ++ ys) ≡ true → (has y xs ≡ true) ⊎ (has y ys ≡ true)
-has_append y [] ys h = inr h
-has_append y (x ∷ xs) ys h =
-    ⊎_elim (λ (e : y ≡ x). inl (here y x xs e))
-    (λ (e : (y ≡ x → ⊥) × (has y (xs ++ ys) ≡ true)).
-    ⊎_elim (λ (a : has y xs ≡ true). inl (there y x xs a)) (λ (a : has y ys ≡ true). inr a) (has_append y xs ys e.1))
-    (has_some y x (xs ++ ys) h)
-
-none_from : (b : Bool) → (b ≡ true → ⊥) → b ≡ false
-none_from true n = absurd (n refl)
-none_from false n = refl
-
 once_append : (xs ys : List ℕ) → Once xs → Once ys → ((y : ℕ) → has y xs ≡ true → has y ys ≡ true → ⊥) → Once (xs ++ ys)
 once_append [] ys a b f = b
-once_append (x ∷ xs) ys a b f = (
-  none_from (has x (xs ++ ys)) (λ h.
-      ⊎_elim (λ (e : has x xs ≡ true). both_ways (has x xs) a.0 e) (λ (e : has x ys ≡ true). f x (here x x xs refl) e) (has_append x xs ys h)),
-  once_append xs ys a.1 b (λ y h. f y (there y x xs h)),
-)
+once_append (x ∷ xs) ys a b f = (grind (arith, list_any-append (eqb x) xs ys, a.0, f x), once_append xs ys a.1 b (λ y h. f y (grind arith)))
 
 once_run : (xs ls : List ℕ) (at : ℕ) → Ends ls at xs → Once xs
 once_run [] ls at e = tt
@@ -91,18 +64,18 @@ module _ (ls : List ℕ) (L : Linked ls) where
   -- a record in use stands in a chain
   pub in_chain : (n y : ℕ) → has y (in_use ls n) ≡ true → (h : ℕ) × (h < n) × (has y (chain ls h) ≡ true)
   unfolding in_use
-  in_chain zero y t = absurd (clash t)
+  in_chain zero y t = absurd cc
   in_chain (suc n) y t =
       ⊎_elim (λ (e : has y (chain ls n) ≡ true). (n, omega arith, e))
-      (λ (e : has y (in_use ls n) ≡ true). let r = in_chain n y e in (r.0, omega (arith, r.1), r.2))
-      (has_append y (chain ls n) (in_use ls n) t)
+      (λ (e : has y (chain ls n) ≡ false). let r = in_chain n y (grind (arith, list_any-append (eqb y) (chain ls n) (in_use ls n))) in (r.0, omega (arith, r.1), r.2))
+      (cases_Bool (has y (chain ls n)))
 
   once_in_use : (n : ℕ) → n ≤ 17 → Once (in_use ls n)
   unfolding in_use
   once_in_use zero l = tt
   once_in_use (suc n) l =
       once_append (chain ls n) (in_use ls n) (once_run (chain ls n) ls (get_or ls n 0) (L.ends n (omega arith))) (once_in_use n (omega arith))
-      (λ y a b. let r = in_chain n y b in let e : n ≡ r.0 = L.apart n r.0 y (omega arith) (omega (arith, r.1)) a r.2 in omega (arith, e, r.1))
+      (λ y a b. let r = in_chain n y b in let e : n ≡ r.0 = L.apart n r.0 y (omega arith) (omega (arith, r.1)) a r.2 in omega (arith, r.1))
 
   pub within : (n y : ℕ) → n ≤ 17 → has y (in_use ls n) ≡ true → (17 ≤ y) × (y < length ls)
   within n y l t =
@@ -112,14 +85,14 @@ module _ (ls : List ℕ) (L : Linked ls) where
 
 seek_skip : (ms : List Bool) (xs ys : List ℕ) → ((y : ℕ) → has y xs ≡ true → get_or ms y false ≡ false) → seek ms (xs ++ ys) ≡ seek ms ys
 seek_skip ms [] ys f = refl
-seek_skip ms (x ∷ xs) ys f = ap (λ (b : Bool). cond b x (seek ms (xs ++ ys))) (f x (here x x xs refl)) ∙ seek_skip ms xs ys (λ y h. f y (there y x xs h))
+seek_skip ms (x ∷ xs) ys f = grind (arith, f x, seek_skip ms xs ys (λ y h. f y (grind arith)))
 
 seek_front : (ms : List Bool) (xs ys : List ℕ) → seek ms ys ≡ 0 → seek ms (xs ++ ys) ≡ seek ms xs
 seek_front ms [] ys e = e
-seek_front ms (x ∷ xs) ys e = ap (λ (y : ℕ). cond (get_or ms x false) x y) (seek_front ms xs ys e)
+seek_front ms (x ∷ xs) ys e = grind (arith, seek_front ms xs ys e)
 
 has_long : (x : ℕ) (xs : List ℕ) → has x xs ≡ true → 0 < length xs
-has_long x [] h = absurd (clash h)
+has_long x [] h = absurd cc
 has_long x (y ∷ ys) h = omega arith
 
 module _ {K V : Type 0} (alike : K → K → Bool) (bucket : K → ℕ) (L : Lawful alike bucket) (ns : List (Node K V)) (S : Sound alike bucket (table ns)) where
@@ -133,7 +106,7 @@ module _ {K V : Type 0} (alike : K → K → Bool) (bucket : K → ℕ) (L : Law
   vs = (table ns).values
 
   mark_home : (q : K) (js : List K) (y : ℕ) → get_or (marks alike q js) y false ≡ true → get_or (map bucket js) y 16 ≡ bucket q
-  mark_home q [] y m = absurd (clash m)
+  mark_home q [] y m = absurd cc
   mark_home q (j ∷ js) zero m = L.shared j q m
   mark_home q (j ∷ js) (suc y) m = mark_home q js y m
 
@@ -156,14 +129,14 @@ module _ {K V : Type 0} (alike : K → K → Bool) (bucket : K → ℕ) (L : Law
       (λ (e : n ≡ b → ⊥).
       let same : ltb b n ≡ ltb b (suc n) =
       ⊎_elim (λ (a : b < n). lt-ltb b n a ∙ sym (lt-ltb b (suc n) (omega (arith, a)))) (λ (a : n ≤ b). le-ltb b n a ∙ sym (le-ltb b (suc n) (omega (arith, a, e)))) (cases_lt b n) in
-      seek_skip ms (chain ls n) (in_use ls n) (λ y t. none_from (get_or ms y false) (λ m. e (home q n y (omega arith) t m)))
+      seek_skip ms (chain ls n) (in_use ls n) (λ y t. false_from_ne_true _ (λ m. e (home q n y (omega arith) t m)))
       ∙ ih ∙ ap (λ (t : Bool). cond t (seek ms (chain ls b)) 0) same)
       (cases_eq n b)
 
   pub look_pairs : (q : K) → look alike (pairs ns) q ≡ found alike bucket (table ns) q
   look_pairs q =
-      look_joined ns alike q (in_use ls 16) (λ y t. omega (arith, (within ls S.linked 16 y (omega arith) t).0))
-      ∙ ap (held vs) (seek_in_use q 16 (omega arith) ∙ ap (λ (t : Bool). cond t (seek (marks alike q ks) (chain ls (bucket q))) 0) (lt-ltb (bucket q) 16 (L.small q)))
+      let above : (y : ℕ) → has y (in_use ls 16) ≡ true → 0 < y = λ y t. omega (arith, (within ls S.linked 16 y (omega arith) t).0) in
+      grind (arith, look_joined ns alike q (in_use ls 16) above, seek_in_use q 16 (omega arith), L.small q)
 
   pub length_pairs : length (pairs ns) ≡ length (in_use ls 16)
   length_pairs = length_joined ns (in_use ls 16) (λ y t. omega (arith, (within ls S.linked 16 y (omega arith) t).1, length-map ns (λ n. n.next)))
@@ -177,11 +150,10 @@ module _ {K V : Type 0} (alike : K → K → Bool) (bucket : K → ℕ) (L : Law
   lone_joined : (xs : List ℕ) → Once xs → ((y : ℕ) → has y xs ≡ true → has y (in_use ls 16) ≡ true) → Lone alike (flat_map (pair_at ns) xs)
   lone_joined [] o f = tt
   lone_joined (x ∷ xs) o f =
-      let g : (y : ℕ) → has y xs ≡ true → has y (in_use ls 16) ≡ true = λ y h. f y (there y x xs h) in
+      let g : (y : ℕ) → has y xs ≡ true → has y (in_use ls 16) ≡ true = λ y h. f y (grind arith) in
       lone_at alike L.reflexive (flat_map (pair_at ns) xs) (lone_joined xs o.1 g) ns x (λ q m.
       look_joined ns alike q xs (λ y h. omega (arith, (within ls S.linked 16 y (omega arith) (g y h)).0))
-      ∙ ap (held vs) (seek_nought (marks alike q ks) xs (λ y h. none_from (get_or (marks alike q ks) y false) (λ my.
-      both_ways (has x xs) o.0 (subst (λ (z : ℕ). has z xs ≡ true) (alone q y x (g y h) (f x (here x x xs refl)) my m) h)))))
+      ∙ ap (held vs) (seek_nought (marks alike q ks) xs (λ y h. grind (arith, o.0, alone q x y (f x (grind arith)) (g y h) m))))
 
   count_is : length (chain ls 16) + (length (in_use ls 16) + 17) ≡ length ns
   count_is = omega (arith, in_use_more ls 16, S.linked.all, length-map ns (λ n. n.next))
@@ -194,29 +166,18 @@ module _ {K V : Type 0} (alike : K → K → Bool) (bucket : K → ℕ) (L : Law
 
   pub spot_held : (k : K) → is_some (found alike bucket (table ns) k) ≡ not (eqb (spot alike bucket (table ns) k) 0)
   spot_held k =
-      let x = spot alike bucket (table ns) k in
       let w = seek_within ls (marks alike k ks) (get_or ls (bucket k) 0) (chain ls (bucket k)) (omega (arith, S.linked.long)) (S.linked.ends (bucket k) (omega (arith, L.small k))) in
-      ⊎_elim (λ (e : x ≡ 0). ap (λ (y : ℕ). is_some (held vs y)) e ∙ sym (ap not (eq-eqb x 0 e)))
-      (λ (e : x ≡ 0 → ⊥). held_some vs x (omega (arith, e)) (omega (arith, w, S.deep)) ∙ sym (ap not (ne_eqb x 0 e)))
-      (cases_eq x 0)
-
-  not_not : (b : Bool) → not (not b) ≡ b
-  not_not true = refl
-  not_not false = refl
+      grind (arith, cases_eq (spot alike bucket (table ns) k) 0, held_some vs (spot alike bucket (table ns) k), w, S.deep)
 
   no_room : leb (room ns) (length (pairs ns)) ≡ eqb (free (table ns)) 0
   no_room =
       ⊎_elim (λ (e : free (table ns) ≡ 0).
       let none : chain ls 16 ≡ [] = ap (run (length ls) ls) e ∙ run_zero (length ls) ls in
-      le-leb (room ns) (length (pairs ns)) (omega (arith, length_pairs, count_is, ap length none)) ∙ sym (eq-eqb (free (table ns)) 0 e))
+      grind (arith, length_pairs, count_is, ap length none))
       (λ (e : free (table ns) ≡ 0 → ⊥).
-      let one = has_long (free (table ns)) (chain ls 16) (free_inside ls (free (table ns)) S.linked refl (omega (arith, e))).0 in
-      lt-leb (room ns) (length (pairs ns)) (omega (arith, length_pairs, count_is, one)) ∙ sym (ne_eqb (free (table ns)) 0 e))
+      let one = has_long (free (table ns)) (chain ls 16) (free_inside ls (free (table ns)) S.linked refl (omega arith)).0 in
+      grind (arith, length_pairs, count_is, one))
       (cases_eq (free (table ns)) 0)
 
   pub full_is : (k : K) → full alike (pairs ns) (room ns) k ≡ (eqb (spot alike bucket (table ns) k) 0 && eqb (free (table ns)) 0)
-  full_is k =
-      ap (λ (o : Option V). not (is_some o) && leb (room ns) (length (pairs ns))) (look_pairs k)
-      ∙ ap (λ (b : Bool). not b && leb (room ns) (length (pairs ns))) (spot_held k)
-      ∙ ap (λ (b : Bool). b && leb (room ns) (length (pairs ns))) (not_not (eqb (spot alike bucket (table ns) k) 0))
-      ∙ ap (λ (b : Bool). eqb (spot alike bucket (table ns) k) 0 && b) no_room
+  full_is k = grind (arith, look_pairs k, spot_held k, no_room)

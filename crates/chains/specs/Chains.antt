@@ -11,7 +11,7 @@
 -- Linked: 17 chains that end, share no record, and have every record past the heads
 -- laid, laid_out: the next indices of a table with no pair
 use Rattle.std.specs.Prelude.{◌≡◌, ℕ, zero, suc, ◌+◌, ◌<◌, ◌≤◌, Bool, true, false, cond, List, [], ◌∷◌, ◌++◌, map, length, ◌==◌, nat_lt, slice_index, slice_index_or, slice_set}
-use Rattle.std.specs.List.{range_with_len}
+use Rattle.std.specs.List.{range_with_len, list_any}
 
 -- the records met from `at` on, until index 0, at most f of them
 abbrev pub run : ℕ → List ℕ → ℕ → List ℕ
@@ -47,8 +47,7 @@ Ends ls at [] = at ≡ 0
 Ends ls at (x ∷ xs) = (at ≡ x) × (17 ≤ x) × (x < length ls) × Ends ls (slice_index ls x) xs
 
 abbrev pub has : ℕ → List ℕ → Bool
-has x [] = false
-has x (y ∷ ys) = cond (x == y) true (has x ys)
+has x xs = list_any (λ y. x == y) xs
 
 -- the records of the chains below h
 unfoldable pub in_use : List ℕ → ℕ → List ℕ

@@ -3,20 +3,21 @@ ghost use Rattle.std.specs.Prelude.{◌≡◌, not, is_some, ◌==◌};
 ghost use Rattle.std.specs.Option.{unwrap_or};
 ghost use Rattle.chains.specs.Tables.{table, spot, found, put_table, put_answer, drop_table};
 
-use crate::cells::{link, next_of, set_key, set_value, unlink, value_to};
+use crate::FREE;
+use crate::cells::{after, link, set_key, set_value, unlink, value_to};
 use crate::node::Node;
 use crate::walk::walk;
 use stores::fault::StoreFault;
 use stores::store::Key;
 
-// The head of the free chain.
-const FREE: usize = 16;
-
+#[tactic(auto, using(crate::proofs::Columns::held_is))]
 pub fn get_in<K: Key, V: Copy>(nodes: &[Node<K, V>], k: &K, place: &mut V) -> bool
     ensures answer { result ≡ is_some (found K.Key.alike K.Key.bucket (table nodes.now) k.now) }
     ensures place { place.new ≡ unwrap_or (found K.Key.alike K.Key.bucket (table nodes.now) k.now) place.old }
 {
-    let spot = walk(nodes, k);
+    let Some(spot) = walk(nodes, k) else {
+        return false;
+    };
     value_to(nodes, spot.at as usize, place)
 }
 
@@ -28,15 +29,11 @@ pub fn put_in<K: Key + Copy, V: Copy>(
     ensures answer { result ≡ put_answer K.Key.alike K.Key.bucket (table nodes.old) k }
     ensures after { table nodes.new ≡ put_table K.Key.alike K.Key.bucket (table nodes.old) k v }
 {
-    let spot = walk(nodes, &k);
-    if spot.at != 0 {
+    if let Some(spot) = walk(nodes, &k) {
         set_value(nodes, spot.at as usize, v);
         return Ok(());
     }
-    let x = next_of(nodes, FREE);
-    if x == 0 {
-        return Err(StoreFault::Full);
-    }
+    let x = after(nodes, FREE).ok_or(StoreFault::Full)?;
     let head = k.hash();
     unlink(nodes, FREE);
     set_key(nodes, x as usize, k);
@@ -49,10 +46,9 @@ pub fn drop_in<K: Key, V>(nodes: &mut [Node<K, V>], k: &K) -> bool
     ensures answer { result ≡ not (spot K.Key.alike K.Key.bucket (table nodes.old) k.now == 0) }
     ensures after { table nodes.new ≡ drop_table K.Key.alike K.Key.bucket (table nodes.old) k.now }
 {
-    let spot = walk(nodes, k);
-    if spot.at == 0 {
+    let Some(spot) = walk(nodes, k) else {
         return false;
-    }
+    };
     unlink(nodes, spot.before);
     link(nodes, spot.at, FREE);
     true

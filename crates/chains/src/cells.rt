@@ -1,8 +1,9 @@
 // Reading and writing one record of the chain table, on any list and at any index.
-ghost use Rattle.std.specs.Prelude.{◌≡◌, false, is_some, slice_index, slice_index_or, slice_set};
+ghost use Rattle.std.specs.Prelude.{◌≡◌, false, if◌then◌else◌, ◌==◌, is_some, slice_index, slice_index_or, slice_set};
 ghost use Rattle.std.specs.Option.{unwrap_or};
+ghost use Rattle.std.specs.List.{slice_get};
 ghost use Rattle.chains.specs.Chains.{unlink as unlinked, link as linked};
-ghost use Rattle.chains.specs.Tables.{table, marks, held};
+ghost use Rattle.chains.specs.Tables.{table, marks};
 
 use crate::node::Node;
 use stores::store::Key;
@@ -10,34 +11,39 @@ use stores::store::Key;
 pub(crate) fn next_of<K, V>(nodes: &[Node<K, V>], at: usize) -> u16
     ensures { result ≡ slice_index (table nodes.now).links at }
 {
-    if at < nodes.len() { nodes[at].next } else { 0 }
+    nodes.get(at).map_or(0, |node| node.next)
+}
+
+// The record after `at`, if there is one: index 0 ends each chain.
+pub(crate) fn after<K, V>(nodes: &[Node<K, V>], at: usize) -> Option<u16>
+    ensures { result ≡ (if slice_index (table nodes.now).links at == 0 then None else Some (slice_index (table nodes.now).links at)) }
+{
+    match next_of(nodes, at) {
+        0 => None,
+        next => Some(next),
+    }
 }
 
 pub(crate) fn has_key<K: Key, V>(nodes: &[Node<K, V>], at: usize, k: &K) -> bool
     ensures { result ≡ slice_index_or (marks K.Key.alike k.now (table nodes.now).keys) at false }
 {
-    if at < nodes.len() {
-        nodes[at].key.same(k)
-    } else {
-        false
-    }
+    nodes.get(at).is_some_and(|node| node.key.same(k))
 }
 
-// Writes the value of record `at` to the place; record 0 has none.
+// Writes the value of a record to the place, if there is that record.
 pub(crate) fn value_to<K, V: Copy>(nodes: &[Node<K, V>], at: usize, place: &mut V) -> bool
-    ensures answer { result ≡ is_some (held (table nodes.now).values at) }
-    ensures place { place.new ≡ unwrap_or (held (table nodes.now).values at) place.old }
+    ensures answer { result ≡ is_some (slice_get (table nodes.now).values at) }
+    ensures place { place.new ≡ unwrap_or (slice_get (table nodes.now).values at) place.old }
 {
-    if at == 0 {
+    let Some(node) = nodes.get(at) else {
         return false;
-    }
-    if at < nodes.len() {
-        *place = nodes[at].value;
-        return true;
-    }
-    false
+    };
+    *place = node.value;
+    true
 }
 
+// These three write by index under a test: of a slice's `get_mut` a proof learns the length and no element.
+#[tactic(auto, using(crate::proofs::Columns::writes))]
 pub(crate) fn set_next<K, V>(nodes: &mut [Node<K, V>], at: usize, to: u16)
     ensures links { (table nodes.new).links ≡ slice_set (table nodes.old).links at to }
     ensures keys { (table nodes.new).keys ≡ (table nodes.old).keys }
@@ -48,6 +54,7 @@ pub(crate) fn set_next<K, V>(nodes: &mut [Node<K, V>], at: usize, to: u16)
     }
 }
 
+#[tactic(auto, using(crate::proofs::Columns::writes))]
 pub(crate) fn set_key<K: Drop, V>(nodes: &mut [Node<K, V>], at: usize, k: K)
     ensures links { (table nodes.new).links ≡ (table nodes.old).links }
     ensures keys { (table nodes.new).keys ≡ slice_set (table nodes.old).keys at k }
@@ -58,6 +65,7 @@ pub(crate) fn set_key<K: Drop, V>(nodes: &mut [Node<K, V>], at: usize, k: K)
     }
 }
 
+#[tactic(auto, using(crate::proofs::Columns::writes))]
 pub(crate) fn set_value<K, V: Drop>(nodes: &mut [Node<K, V>], at: usize, v: V)
     ensures links { (table nodes.new).links ≡ (table nodes.old).links }
     ensures keys { (table nodes.new).keys ≡ (table nodes.old).keys }
@@ -74,9 +82,9 @@ pub(crate) fn unlink<K, V>(nodes: &mut [Node<K, V>], before: usize)
     ensures keys { (table nodes.new).keys ≡ (table nodes.old).keys }
     ensures values { (table nodes.new).values ≡ (table nodes.old).values }
 {
-    let x = next_of(nodes, before) as usize;
-    let after = next_of(nodes, x);
-    set_next(nodes, before, after);
+    let at = next_of(nodes, before) as usize;
+    let next = next_of(nodes, at);
+    set_next(nodes, before, next);
 }
 
 // Puts the record x at the front of the chain of `head`.

@@ -3,7 +3,7 @@ ghost use Rattle.std.specs.Prelude.{◌≡◌, ◌<◌, ◌≤◌, [], length, i
 ghost use Rattle.chains.specs.Chains.{laid};
 ghost use Rattle.chains.specs.Tables.{table, fits_table, fresh_table, Sound, pairs};
 
-use crate::cells::set_next;
+use crate::FREE;
 use crate::node::Node;
 use stores::fault::StoreFault;
 use stores::store::Key;
@@ -13,9 +13,7 @@ fn laid_next(n: usize, i: usize) -> u16
     requires { (i < n) × (n ≤ 65536) }
     ensures { result ≡ laid n i }
 {
-    if i < 16 {
-        0
-    } else if i + 1 < n {
+    if i >= FREE && i + 1 < n {
         (i + 1) as u16
     } else {
         0
@@ -32,12 +30,11 @@ pub fn format<K: Key, V>(nodes: &mut [Node<K, V>]) -> Result<(), StoreFault>
     ensures empty { result ≡ Ok tt → pairs nodes.new ≡ [] }
 {
     let n = nodes.len();
-    if n < 18 || n > 65536 {
+    if !(18..=65536).contains(&n) {
         return Err(StoreFault::Length);
     }
-    for i in 0..n {
-        let to = laid_next(n, i);
-        set_next(nodes, i, to);
+    for (i, node) in nodes.iter_mut().enumerate() {
+        node.next = laid_next(n, i);
     }
     Ok(())
 }

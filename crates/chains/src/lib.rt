@@ -12,6 +12,9 @@ mod walk;
 
 use crate::node::Node;
 
+// The head of the free chain.
+const FREE: usize = 16;
+
 #[derive(Drop)]
 pub struct Chain<'a, K, V> {
     pub nodes: &'a mut [Node<K, V>],

@@ -1,65 +1,52 @@
 -- What put and drop leave in a log is what a store's put and drop leave.
-use Rattle.std.proofs.Common.{◌≡◌, ℕ, suc, ◌+◌, ◌-◌, ◌<◌, ◌≤◌, Bool, true, false, cond, not, ◌&&◌, ltb, leb, List, [], ◌∷◌, ◌++◌, length, take, drop, set, is_some, Some, None, Option, sym, refl, ap, ◌∙◌, subst, ⊎_elim, arith, length-append, length-drop, length-set, le-ltb, lt-ltb, leb-false}
-use borrow.Author.Tests.{both_ways}
-use Rattle.std.proofs.lemmas.List.{take_more_set, take_at, length-take}
+use Rattle.std.proofs.Common.{◌≡◌, ℕ, suc, ◌+◌, ◌<◌, ◌≤◌, Bool, true, false, cond, List, [], ◌∷◌, ◌++◌, length, is_some, Some, None, sym, refl, ap, ◌∙◌, ⊎_elim, arith, length-append, length-drop, length-set, le-ltb, lt-ltb}
 use Rattle.std.proofs.lemmas.Bool.{cases_Bool, cases_lt}
+use Rattle.std.proofs.lemmas.Bool.Decides.{nat_tests}
+use Rattle.std.proofs.lemmas.Grind.{common_steps}
+use Rattle.std.proofs.lemmas.List.{take_at, length-take}
+use Rattle.std.proofs.lemmas.List.Sums.{fold_push}
 use Rattle.logs.specs.declared.entry.Entry.{Entry}
 use Rattle.logs.specs.declared.entry.Entry.TheVariants.{Put, Dropped}
-use Rattle.logs.specs.Logs.{Book, written, names, tells, told, live, squeezed, noted, appended, counted, value_of, put_refuses, put_book, drop_book, pairs, room, Sound}
+use Rattle.logs.specs.Logs.{Book, written, names, tells, told, live, squeezed, noted, appended, value_of, put_refuses, put_book, drop_book, pairs, room, Sound}
 use Rattle.stores.specs.Pairs.{look, turned, full, more, Kept}
 use Rattle.stores.proofs.Laws.{Lawful}
-use Rattle.logs.proofs.Parts.{told_push}
 use Rattle.stores.proofs.Counts.{bit}
 use Rattle.logs.proofs.Tolds.{length_live, live_live, length_pairs, look_live, lone_live, told_live, told_same, live_push}
 
--- what one more record leaves
-record Adds {K V : Type 0} (alike : K → K → Bool) (b b' : Book K V) (e : Entry K V) : Type 0 where
+-- ws are the records in use of b, or its live ones, and one more
+record Adds {K V : Type 0} (alike : K → K → Bool) (b : Book K V) (e : Entry K V) (ws : List (Entry K V)) : Type 0 where
   pub base : List (Entry K V)
-  pub is : written b' ≡ base ++ e ∷ []
+  pub is : ws ≡ base ++ e ∷ []
   pub same : (q : K) → told alike q None base ≡ told alike q None (written b)
   pub many : length (live alike base) ≡ length (live alike (written b))
-  pub within : b'.used ≤ length b'.entries
 
 module _ {K V : Type 0} (alike : K → K → Bool) where
-  -- a record written at a place that there is
-  noted_fits : (e : Entry K V) (b : Book K V) → b.used < length b.entries →
-      (written (noted alike e b) ≡ written b ++ e ∷ []) × ((noted alike e b).used ≤ length (noted alike e b).entries)
-  noted_fits e b l =
-      let u : (noted alike e b).used ≡ b.used + 1 = ap (λ (t : Bool). cond t (suc b.used) b.used) (lt-ltb b.used (length b.entries) l) ∙ omega arith in (
-        ap (λ (n : ℕ). take n (set b.entries b.used e)) u ∙ take_more_set b.entries b.used e l,
-        omega (arith, u, l, length-set b.entries b.used e),
-      )
-
   squeezed_size : (b : Book K V) → length (squeezed alike b).entries ≡ length b.entries
-  squeezed_size b =
-      let L = live alike (written b) in
-      omega (arith, length-append L (drop (length L) b.entries), length-drop (length L) b.entries, length_live alike (written b), length-take b.used b.entries)
+  squeezed_size b = grind (arith, length-append, length-drop, length-take, length_live)
 
   squeezed_written : (b : Book K V) → written (squeezed alike b) ≡ live alike (written b)
-  squeezed_written b = take_at (live alike (written b)) (drop (length (live alike (written b))) b.entries) (length (live alike (written b))) refl
+  squeezed_written b = take_at _ _ _ refl
+
+  -- a record written at a place that there is
+  noted_written : (e : Entry K V) (b : Book K V) → b.used < length b.entries → written (noted alike e b) ≡ written b ++ e ∷ []
+  noted_written e b l = grind (arith, nat_tests, common_steps)
 
   pub appended_size : (e : Entry K V) (b : Book K V) → length (appended alike e b).entries ≡ length b.entries
-  appended_size e b =
-      let r = cond (ltb b.used (length b.entries)) b (squeezed alike b) in
-      let s : length r.entries ≡ length b.entries =
-      elim (ltb b.used (length b.entries)) as (λ t. length (cond t b (squeezed alike b)).entries ≡ length b.entries) [ true ↦ refl | false ↦ squeezed_size b ] in
-      length-set r.entries r.used e ∙ s
+  appended_size e b = grind (arith, length-set, squeezed_size)
 
 module _ {K V : Type 0} (alike : K → K → Bool) (bucket : K → ℕ) (L : Lawful alike bucket) (b : Book K V) (S : Sound alike b) where
-  appended_adds : (e : Entry K V) → Adds alike b (appended alike e b) e
+  appended_adds : (e : Entry K V) → Adds alike b e (written (appended alike e b))
   appended_adds e =
+      let one : Bool → List (Entry K V) = λ t. written (noted alike e (cond t b (squeezed alike b))) in
       ⊎_elim
-      (λ (l : b.used < length b.entries).
-      let n = noted_fits alike e b l in
-      subst (λ (x : Book K V). Adds alike b (noted alike e x) e) (sym (ap (λ (t : Bool). cond t b (squeezed alike b)) (lt-ltb b.used (length b.entries) l)))
-      (record { base = written b; is = n.0; same = λ q. refl; many = refl; within = n.1 }))
+      (λ (l : b.used < length b.entries). record { base = written b; is = ap one (lt-ltb _ _ l) ∙ noted_written alike e b l; same = λ q. refl; many = refl })
       (λ (l : length b.entries ≤ b.used).
-      let z = squeezed alike b in
-      let n = noted_fits alike e z (omega (arith, squeezed_size alike b, S.paired, S.fits, S.long)) in
-      let w = squeezed_written alike b in
-      subst (λ (x : Book K V). Adds alike b (noted alike e x) e) (sym (ap (λ (t : Bool). cond t b (squeezed alike b)) (le-ltb b.used (length b.entries) l)))
-      (record { base = live alike (written b); is = n.0 ∙ ap (λ (xs : List (Entry K V)). xs ++ e ∷ []) w; same = λ q. told_live alike bucket L q (written b); many = ap length (live_live alike (written b)); within = n.1 }))
+      let n = noted_written alike e (squeezed alike b) (omega (arith, squeezed_size alike b, S.paired, S.fits, S.long)) in
+      record { base = live alike (written b); is = grind (arith, ap one (le-ltb _ _ l), n, squeezed_written); same = λ q. told_live alike bucket L q (written b); many = ap length (live_live alike (written b)) })
       (cases_lt b.used (length b.entries))
+
+  appended_within : (e : Entry K V) → (appended alike e b).used ≤ length (appended alike e b).entries
+  appended_within e = grind (arith, nat_tests, length-set, squeezed_size, S.within)
 
   pub look_pairs : (q : K) → look alike (pairs alike b) q ≡ value_of alike b q
   look_pairs q = look_live alike bucket L q (written b)
@@ -71,148 +58,80 @@ module _ {K V : Type 0} (alike : K → K → Bool) (bucket : K → ℕ) (L : Law
   kept = record { lone = lone_live alike bucket L (written b); room = omega (arith, many_pairs, S.fits) }
 
   pub full_is : (k : K) → full alike (pairs alike b) (room b) k ≡ put_refuses alike b k
-  full_is k =
-      ap (λ (o : Option V). not (is_some o) && leb (room b) (length (pairs alike b))) (look_pairs k)
-      ∙ ap (λ (n : ℕ). not (is_some (value_of alike b k)) && leb (room b) n) many_pairs
+  full_is k = grind (arith, look_pairs, many_pairs)
 
--- the number of live records after one more of the key k
-module _ {K V : Type 0} (alike : K → K → Bool) (bucket : K → ℕ) (L : Lawful alike bucket) (b b' : Book K V) (k : K) (e : Entry K V) (of : (j : K) → names alike j e ≡ alike k j) (A : Adds alike b b' e) where
-  adds_live : length (live alike (written b')) + bit (is_some (value_of alike b k)) ≡ length (live alike (e ∷ [])) + length (live alike (written b))
-  adds_live = omega (arith, ap (λ (xs : List (Entry K V)). length (live alike xs)) A.is, live_push alike bucket L k e of A.base, A.many, ap (λ (o : Option V). bit (is_some o)) (A.same k))
+-- one more record of the key k
+module _ {K V : Type 0} (alike : K → K → Bool) (bucket : K → ℕ) (L : Lawful alike bucket) (b : Book K V) (k : K) (e : Entry K V) (ws : List (Entry K V)) (of : (j : K) → names alike j e ≡ alike k j) (A : Adds alike b e ws) where
+  adds_live : length (live alike ws) + bit (is_some (value_of alike b k)) ≡ length (live alike (e ∷ [])) + length (live alike (written b))
+  adds_live = grind (arith, A.is, A.many, A.same k, live_push alike bucket L k e of A.base)
 
-  adds_told : (q : K) → value_of alike b' q ≡ tells alike q (value_of alike b q) e
-  adds_told q = ap (told alike q None) A.is ∙ told_push alike q None A.base e ∙ ap (λ (o : Option V). tells alike q o e) (A.same q)
-
-more_bit : (t : Bool) (n m : ℕ) → m + bit t ≡ 1 + n → m ≡ more t n
-more_bit true n m h = omega arith
-more_bit false n m h = omega arith
-
-more_fits : (t : Bool) (n c : ℕ) → n ≤ c → (not t && leb c n) ≡ false → more t n ≤ c
-more_fits true n c l h = l
-more_fits false n c l h = omega (arith, leb-false c n h)
+  adds_told : (q : K) → told alike q None ws ≡ tells alike q (value_of alike b q) e
+  adds_told q = grind (arith, A.is, A.same q, fold_push)
 
 module _ {K V : Type 0} (alike : K → K → Bool) (bucket : K → ℕ) (L : Lawful alike bucket) (b b' : Book K V) (k : K) (v : V) (e : b' ≡ put_book alike b k v) where
-  abbrev new : Book K V
-  new = counted alike (more (is_some (value_of alike b k)) b.count) (appended alike (Put k v) b)
-
-  put_no : put_refuses alike b k ≡ true → b' ≡ b
-  put_no f = e ∙ ap (λ (t : Bool). cond t b new) f
-
-  put_yes : put_refuses alike b k ≡ false → b' ≡ new
-  put_yes f = e ∙ ap (λ (t : Bool). cond t b new) f
-
   pub put_room : room b' ≡ room b
-  put_room =
-      ⊎_elim (λ (f : put_refuses alike b k ≡ true). ap room (put_no f))
-      (λ (f : put_refuses alike b k ≡ false). ap room (put_yes f) ∙ ap (λ (n : ℕ). n - 1) (appended_size alike (Put k v) b))
-      (cases_Bool (put_refuses alike b k))
+  put_room = grind (arith, appended_size alike (Put k v) b)
 
   module _ (S : Sound alike b) where
-    new_adds : Adds alike b new (Put k v)
-    new_adds = let A = appended_adds alike bucket L b S (Put k v) in record { base = A.base; is = A.is; same = A.same; many = A.many; within = A.within }
+    abbrev A : Adds alike b (Put k v) (written (appended alike (Put k v) b))
+    A = appended_adds alike bucket L b S (Put k v)
 
-    new_live : length (live alike (written new)) ≡ more (is_some (value_of alike b k)) b.count
-    new_live = more_bit (is_some (value_of alike b k)) b.count (length (live alike (written new))) (omega (arith, adds_live alike bucket L b new k (Put k v) (λ j. refl) new_adds, S.paired))
+    put_live : put_refuses alike b k ≡ false → length (live alike (written b')) ≡ more (is_some (value_of alike b k)) b.count
+    put_live f = grind (arith, adds_live alike bucket L b k (Put k v) _ (λ j. refl) A, S.paired)
 
-    new_sound : put_refuses alike b k ≡ false → Sound alike new
-    new_sound f =
-        let z = appended_size alike (Put k v) b in
-        record {
-          long = omega (arith, z, S.long);
-          short = omega (arith, z, S.short);
-          within = new_adds.within;
-          paired = sym new_live;
-          fits = subst (λ (n : ℕ). more (is_some (value_of alike b k)) b.count ≤ n - 1) (sym z) (more_fits (is_some (value_of alike b k)) b.count (room b) S.fits f);
-        }
+    pub put_refused : full alike (pairs alike b) (room b) k ≡ true → b' ≡ b
+    put_refused f = grind (arith, full_is alike bucket L b S k)
 
     pub put_stays : Sound alike b'
     put_stays =
-        ⊎_elim (λ (f : put_refuses alike b k ≡ true). subst (Sound alike) (sym (put_no f)) S)
-        (λ (f : put_refuses alike b k ≡ false). subst (Sound alike) (sym (put_yes f)) (new_sound f))
+        ⊎_elim (λ (f : put_refuses alike b k ≡ true). grind arith)
+        (λ (f : put_refuses alike b k ≡ false). record {
+          long = grind (arith, put_room, S.long);
+          short = grind (arith, put_room, S.short);
+          within = grind (arith, appended_within alike bucket L b S (Put k v));
+          paired = grind (arith, put_live);
+          fits = grind (arith, put_room, S.fits, nat_tests);
+        })
         (cases_Bool (put_refuses alike b k))
 
-    pub put_refused : full alike (pairs alike b) (room b) k ≡ true → b' ≡ b
-    put_refused f = put_no (sym (full_is alike bucket L b S k) ∙ f)
-
     pub put_found : full alike (pairs alike b) (room b) k ≡ false → (q : K) → look alike (pairs alike b') q ≡ turned alike (look alike (pairs alike b)) k (Some v) q
-    put_found f q =
-        let y = put_yes (sym (full_is alike bucket L b S k) ∙ f) in
-        look_live alike bucket L q (written b') ∙ ap (λ (x : Book K V). value_of alike x q) y ∙ adds_told alike bucket L b new k (Put k v) (λ j. refl) new_adds q
-        ∙ ap (λ (o : Option V). cond (alike k q) (Some v) o) (sym (look_pairs alike bucket L b S q))
+    put_found f q = grind (arith, full_is alike bucket L b S k, look_live, adds_told alike bucket L b k (Put k v) _ (λ j. refl) A q, look_pairs alike bucket L b S)
 
     pub put_many : full alike (pairs alike b) (room b) k ≡ false → length (pairs alike b') ≡ more (is_some (look alike (pairs alike b) k)) (length (pairs alike b))
-    put_many f =
-        let y = put_yes (sym (full_is alike bucket L b S k) ∙ f) in
-        length_pairs alike (written b') ∙ ap (λ (x : Book K V). length (live alike (written x))) y ∙ new_live
-        ∙ ap (λ (n : ℕ). more (is_some (value_of alike b k)) n) (sym (many_pairs alike bucket L b S))
-        ∙ ap (λ (o : Option V). more (is_some o) (length (pairs alike b))) (sym (look_pairs alike bucket L b S k))
+    put_many f = grind (arith, full_is alike bucket L b S k, length_pairs, put_live, many_pairs alike bucket L b S, look_pairs alike bucket L b S)
 
 module _ {K V : Type 0} (alike : K → K → Bool) (bucket : K → ℕ) (L : Lawful alike bucket) (b b' : Book K V) (k : K) (r : Bool)
     (a : r ≡ is_some (value_of alike b k)) (e : b' ≡ drop_book alike b k) where
-  abbrev cut : Book K V
-  cut = counted alike (b.count - 1) (appended alike (Dropped k) b)
-
   pub drop_refused : r ≡ false → b' ≡ b
-  drop_refused f = e ∙ ap (λ (t : Bool). cond t cut b) (sym a ∙ f)
-
-  drop_yes : r ≡ true → b' ≡ cut
-  drop_yes f = e ∙ ap (λ (t : Bool). cond t cut b) (sym a ∙ f)
+  drop_refused f = grind arith
 
   pub drop_room : room b' ≡ room b
-  drop_room =
-      ⊎_elim (λ (f : r ≡ true). ap room (drop_yes f) ∙ ap (λ (n : ℕ). n - 1) (appended_size alike (Dropped k) b))
-      (λ (f : r ≡ false). ap room (drop_refused f))
-      (cases_Bool r)
+  drop_room = grind (arith, appended_size alike (Dropped k) b)
 
   module _ (S : Sound alike b) where
     pub drop_answer : r ≡ is_some (look alike (pairs alike b) k)
-    drop_answer = a ∙ sym (ap is_some (look_pairs alike bucket L b S k))
+    drop_answer = grind (arith, look_pairs alike bucket L b S)
 
-    cut_adds : Adds alike b cut (Dropped k)
-    cut_adds = let A = appended_adds alike bucket L b S (Dropped k) in record { base = A.base; is = A.is; same = A.same; many = A.many; within = A.within }
+    abbrev D : Adds alike b (Dropped k) (written (appended alike (Dropped k) b))
+    D = appended_adds alike bucket L b S (Dropped k)
 
-    cut_live : r ≡ true → suc (length (live alike (written cut))) ≡ b.count
-    cut_live f = omega (arith, adds_live alike bucket L b cut k (Dropped k) (λ j. refl) cut_adds, S.paired, ap bit (sym a ∙ f))
+    drop_live : r ≡ true → suc (length (live alike (written b'))) ≡ b.count
+    drop_live f = grind (arith, adds_live alike bucket L b k (Dropped k) _ (λ j. refl) D, S.paired)
 
     pub drop_stays : Sound alike b'
     drop_stays =
-        ⊎_elim (λ (f : r ≡ true).
-        let z = appended_size alike (Dropped k) b in
-        subst (Sound alike) (sym (drop_yes f)) (record {
-          long = omega (arith, z, S.long);
-          short = omega (arith, z, S.short);
-          within = cut_adds.within;
-          paired = omega (arith, cut_live f);
-          fits = omega (arith, z, S.fits);
-        }))
-        (λ (f : r ≡ false). subst (Sound alike) (sym (drop_refused f)) S)
+        ⊎_elim (λ (f : r ≡ true). record {
+          long = grind (arith, drop_room, S.long);
+          short = grind (arith, drop_room, S.short);
+          within = grind (arith, appended_within alike bucket L b S (Dropped k));
+          paired = grind (arith, drop_live);
+          fits = grind (arith, drop_room, S.fits);
+        })
+        (λ (f : r ≡ false). grind arith)
         (cases_Bool r)
 
     pub drop_found : (q : K) → look alike (pairs alike b') q ≡ turned alike (look alike (pairs alike b)) k None q
-    drop_found q =
-        look_live alike bucket L q (written b')
-        ∙ ⊎_elim (λ (f : r ≡ true). ap (λ (x : Book K V). value_of alike x q) (drop_yes f) ∙ adds_told alike bucket L b cut k (Dropped k) (λ j. refl) cut_adds q)
-        (λ (f : r ≡ false).
-        ap (λ (x : Book K V). value_of alike x q) (drop_refused f) ∙
-        ⊎_elim (λ (t : alike k q ≡ true).
-        let n : value_of alike b q ≡ None = same_none q t (sym a ∙ f) in
-        n ∙ sym (ap (λ (t : Bool). cond t None (value_of alike b q)) t))
-        (λ (t : alike k q ≡ false). sym (ap (λ (t : Bool). cond t None (value_of alike b q)) t))
-        (cases_Bool (alike k q)))
-        (cases_Bool r)
-        ∙ ap (λ (o : Option V). cond (alike k q) None o) (sym (look_pairs alike bucket L b S q))
-      where
-        none_of : (o : Option V) → is_some o ≡ false → o ≡ None
-        none_of None h = refl
-        none_of (Some x) h = absurd (both_ways true h refl)
-
-        same_none : (q : K) → alike k q ≡ true → is_some (value_of alike b k) ≡ false → value_of alike b q ≡ None
-        same_none q t h = sym (told_same alike bucket L k q None (written b) t) ∙ none_of (value_of alike b k) h
+    drop_found q = grind (arith, cases_Bool r, drop_refused, look_live, adds_told alike bucket L b k (Dropped k) _ (λ j. refl) D q, look_pairs alike bucket L b S, told_same alike bucket L k q None (written b))
 
     pub drop_many : more r (length (pairs alike b)) ≡ suc (length (pairs alike b'))
-    drop_many =
-        ⊎_elim (λ (f : r ≡ true).
-        ap (λ (t : Bool). more t (length (pairs alike b))) f ∙ many_pairs alike bucket L b S ∙ sym (cut_live f)
-        ∙ ap (λ (x : Book K V). suc (length (live alike (written x)))) (sym (drop_yes f)) ∙ ap suc (sym (length_pairs alike (written b'))))
-        (λ (f : r ≡ false). ap (λ (t : Bool). more t (length (pairs alike b))) f ∙ ap (λ (x : Book K V). suc (length (pairs alike x))) (sym (drop_refused f)))
-        (cases_Bool r)
+    drop_many = grind (arith, cases_Bool r, drop_refused, length_pairs, drop_live, many_pairs alike bucket L b S)

@@ -14,8 +14,8 @@
 -- Sound: what a new log has and every call keeps
 -- fits_log: the lengths that a log may have
 -- room: the capacity
-use Rattle.std.specs.Prelude.{◌≡◌, ℕ, suc, ◌-◌, ◌≤◌, Bool, true, false, cond, not, ◌&&◌, List, [], ◌∷◌, ◌++◌, length, take, drop, is_some, Some, None, Option, nat_le, nat_lt, slice_set}
-use Rattle.std.specs.List.{flat_map}
+use Rattle.std.specs.Prelude.{◌≡◌, ℕ, suc, ◌-◌, ◌≤◌, Bool, false, cond, not, ◌&&◌, List, [], ◌∷◌, ◌++◌, length, take, drop, is_some, Some, None, Option, nat_le, nat_lt, slice_set}
+use Rattle.std.specs.List.{flat_map, fold, list_any}
 use Rattle.logs.specs.declared.entry.Entry.{Entry}
 use Rattle.logs.specs.declared.entry.Entry.TheVariants.{Put, Dropped}
 use Rattle.logs.specs.declared.fill.Fill.{Fill}
@@ -32,26 +32,31 @@ book es f = record { entries = es; used = f.used; count = f.count }
 abbrev pub written : {K V : Type 0} → Book K V → List (Entry K V)
 written b = take b.used b.entries
 
+-- the key of a record, and the value that it gives the key
+abbrev pub key_of : {K V : Type 0} → Entry K V → K
+key_of (Put k v) = k
+key_of (Dropped k) = k
+
+abbrev pub value_in : {K V : Type 0} → Entry K V → Option V
+value_in (Put k v) = Some v
+value_in (Dropped k) = None
+
 module _ {K V : Type 0} (alike : K → K → Bool) where
   -- whether a record is of the key q
   abbrev pub names : K → Entry K V → Bool
-  names q (Put k v) = alike k q
-  names q (Dropped k) = alike k q
+  names q e = alike (key_of e) q
 
   -- whether one of the records is
   abbrev pub named : K → List (Entry K V) → Bool
-  named q [] = false
-  named q (e ∷ es) = cond (names q e) true (named q es)
+  named q es = list_any (names q) es
 
   -- what a record makes of what was told of the key q before
   abbrev pub tells : K → Option V → Entry K V → Option V
-  tells q o (Put k v) = cond (alike k q) (Some v) o
-  tells q o (Dropped k) = cond (alike k q) None o
+  tells q o e = cond (names q e) (value_in e) o
 
   -- what the records make of it, the first of them first
   abbrev pub told : K → Option V → List (Entry K V) → Option V
-  told q o [] = o
-  told q o (e ∷ es) = told q (tells q o e) es
+  told q o es = fold (tells q) o es
 
   -- whether a record is the last put of its key, with es after it
   abbrev pub lasts : Entry K V → List (Entry K V) → Bool

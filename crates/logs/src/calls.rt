@@ -1,4 +1,4 @@
-// The calls of the log over any lent list of records.
+// The calls of the log over any lent list of records. List and fill come apart: by the rules a log's methods hand the list to functions.
 ghost use Rattle.std.specs.Prelude.{◌≡◌, is_some, if◌then◌else◌, Ok, Err};
 ghost use Rattle.std.specs.Option.{unwrap_or};
 ghost use Rattle.logs.specs.Logs.{book, value_of, put_refuses, put_book, drop_book};
@@ -14,13 +14,11 @@ pub fn get_in<K: Key, V: Copy>(entries: &[Entry<K, V>], fill: &Fill, k: &K, plac
     ensures answer { result ≡ is_some (value_of K.Key.alike (book entries.now fill.now) k.now) }
     ensures place { place.new ≡ unwrap_or (value_of K.Key.alike (book entries.now fill.now) k.now) place.old }
 {
-    match latest(entries, fill.used, k) {
-        Some(v) => {
-            *place = v;
-            true
-        }
-        None => false,
-    }
+    let Some(v) = latest(entries, fill.used, k) else {
+        return false;
+    };
+    *place = v;
+    true
 }
 
 pub fn put_in<K: Key + Copy, V: Copy>(
@@ -32,8 +30,7 @@ pub fn put_in<K: Key + Copy, V: Copy>(
     ensures answer { result ≡ (if put_refuses K.Key.alike (book entries.old fill.old) k then Err StoreFault.Full else Ok tt) }
     ensures after { book entries.new fill.new ≡ put_book K.Key.alike (book entries.old fill.old) k v }
 {
-    let known = latest(entries, fill.used, &k).is_some();
-    if !known {
+    if latest(entries, fill.used, &k).is_none() {
         if fill.count >= entries.len().saturating_sub(1) {
             return Err(StoreFault::Full);
         }

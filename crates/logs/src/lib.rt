@@ -27,10 +27,11 @@ pub fn check_length<K, V>(entries: &[Entry<K, V>]) -> Result<(), StoreFault>
     ensures { result ≡ (if fits_log (length entries.now) then Ok tt else Err StoreFault.Length) }
 {
     let n = entries.len();
-    if n < 2 || n > 65536 {
-        return Err(StoreFault::Length);
+    if (2..=65536).contains(&n) {
+        Ok(())
+    } else {
+        Err(StoreFault::Length)
     }
-    Ok(())
 }
 
 impl<'a, K: Key, V> Log<'a, K, V> {

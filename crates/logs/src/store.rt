@@ -14,10 +14,7 @@ impl<'a, K: Key + Copy, V: Copy> Store<K, V> for Log<'a, K, V> {
     ghost sound = { λ s. Sound K.Key.alike (book s.entries.now s.fill) };
 
     fn put(&mut self, k: K, v: V) -> Result<(), StoreFault> {
-        let mut fill = self.fill;
-        let answer = put_in(self.entries, &mut fill, k, v);
-        self.fill = fill;
-        answer
+        put_in(self.entries, &mut self.fill, k, v)
     }
 
     fn get(&self, k: &K, place: &mut V) -> bool {
@@ -25,9 +22,6 @@ impl<'a, K: Key + Copy, V: Copy> Store<K, V> for Log<'a, K, V> {
     }
 
     fn drop_pair(&mut self, k: &K) -> bool {
-        let mut fill = self.fill;
-        let answer = drop_in(self.entries, &mut fill, k);
-        self.fill = fill;
-        answer
+        drop_in(self.entries, &mut self.fill, k)
     }
 }

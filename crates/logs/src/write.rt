@@ -4,19 +4,21 @@ ghost use Rattle.logs.specs.Logs.{book, appended, live};
 
 use crate::entry::Entry;
 use crate::fill::Fill;
-use crate::read::{end, stays};
+use crate::read::stays;
 use stores::store::Key;
 
 // Moves the last put of each key that has a pair to the front, in their order; answers how many they are.
-pub(crate) fn squeeze<K: Key + Copy, V: Copy>(entries: &mut [Entry<K, V>], used: usize) -> usize
-    ensures many { result ≡ length (live K.Key.alike (take used entries.old)) }
-    ensures after { entries.new ≡ live K.Key.alike (take used entries.old) ++ drop (length (live K.Key.alike (take used entries.old))) entries.old }
+pub(crate) fn squeeze<K: Key + Copy, V: Copy>(entries: &mut [Entry<K, V>]) -> usize
+    ensures many { result ≡ length (live K.Key.alike entries.old) }
+    ensures after { entries.new ≡ live K.Key.alike entries.old ++ drop (length (live K.Key.alike entries.old)) entries.old }
 {
-    let stop = end(entries.len(), used);
+    // It writes into the list that it reads, so both go by index.
     let mut w = 0;
-    for i in 0..stop {
+    for i in 0..entries.len() {
         let e = entries[i];
-        if stays(&e, entries, i + 1, stop) {
+        // The check covers no `&entries[i + 1..]` of a list that is lent to be written.
+        let (_, later) = entries.split_at(i + 1);
+        if stays(&e, later) {
             entries[w] = e;
             w += 1;
         }
@@ -33,6 +35,7 @@ pub(crate) fn note<K: Drop, V: Drop>(
     ensures end { result ≡ (if nat_lt at (length entries.old) then suc at else at) }
     ensures after { entries.new ≡ slice_set entries.old at e }
 {
+    // Of a slice's `get_mut` a proof learns the length and no element.
     if at < entries.len() {
         entries[at] = e;
         at + 1
@@ -49,9 +52,8 @@ pub(crate) fn append<K: Key + Copy, V: Copy>(
 )
     ensures { book entries.new fill.new ≡ appended K.Key.alike e (book entries.old fill.old) }
 {
-    let mut at = fill.used;
-    if at >= entries.len() {
-        at = squeeze(entries, at);
+    if fill.used >= entries.len() {
+        fill.used = squeeze(entries);
     }
-    fill.used = note(entries, at, e);
+    fill.used = note(entries, fill.used, e);
 }

@@ -29,7 +29,7 @@ impl Key for TallyKey {
     ghost shared = { Prim.search rules };
 
     fn same(&self, other: &TallyKey) -> bool {
-        self.number == other.number
+        self == other
     }
 
     fn hash(&self) -> usize {
@@ -49,8 +49,6 @@ pub fn raise<K: Key + Copy, S: Store<K, u64>>(store: &mut S, k: K) -> Result<u64
     let mut count = 0;
     store.get(&k, &mut count);
     let next = count.saturating_add(1);
-    match store.put(k, next) {
-        Ok(_) => Ok(next),
-        Err(e) => Err(e),
-    }
+    store.put(k, next)?;
+    Ok(next)
 }

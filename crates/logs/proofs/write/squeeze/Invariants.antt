@@ -1,11 +1,11 @@
 use Rattle.std.proofs.Common.{◌≡◌, ◌≤◌, ◌++◌, take, drop}
 use Rattle.logs.specs.Logs.{live}
-use Rattle.logs.proofs.Parts.{part}
 use Rattle.logs.proofs.write.squeeze.Given as goal
 
 -- what stands first and what is yet to come make the live records; from w on nothing was written
 abbrev pub invariant-loop-i : goal.invariant-loop-i
-invariant-loop-i g l =
-    (l.w ≤ l.i)
-    × (take l.w l.entries ++ live g.K.Key.alike (part l.entries l.i l.stop) ≡ live g.K.Key.alike (take l.stop l.initial.entries))
-    × (drop l.w l.entries ≡ drop l.w l.initial.entries)
+invariant-loop-i g l = record {
+  front : l.w ≤ l.i;
+  made : take l.w l.entries ++ live g.K.Key.alike (drop l.i l.entries) ≡ live g.K.Key.alike l.initial.entries;
+  rest : drop l.w l.entries ≡ drop l.w l.initial.entries;
+}
