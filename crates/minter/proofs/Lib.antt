@@ -2,7 +2,4 @@ mod Dues
 mod Found
 mod Mints
 mod Rooms
-mod Same
 mod Stops
-mod Stored
-mod Walk

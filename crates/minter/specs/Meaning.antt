@@ -1,5 +1,5 @@
 -- What a register means: texts_in, the texts of a store's pairs; opened, the machine over a source and a store before the
--- first call; meaning, the machine that a register stands for; due_by, lacks_room, text_put and text_dropped, of parts of its calls.
+-- first call; over, a machine with other lists; meaning, the machine that a register stands for; due_by, lacks_room, text_put and text_dropped, of parts of its calls.
 use Rattle.std.specs.Prelude.{ℕ, pred, Bool, cond, not, ◌&&◌, List, [], ◌++◌, length, Some, None, vec_items, Option, nat_le}
 use Rattle.sources.specs.Stock.{Stock}
 use Rattle.stores.specs.Pairs.{look, more}
@@ -8,6 +8,7 @@ use Rattle.stores.specs.declared.text.Element.{Element}
 use Rattle.stores.specs.declared.text.TextKey.{TextKey}
 use Rattle.machine.specs.Machine.{Machine, text_under, bound_in, with_queue, numbers, by, later_than, in_order}
 use Rattle.machine.specs.Texts.{bytes_of}
+use Rattle.minter.specs.declared.lists.Lists.{Lists}
 use Rattle.minter.specs.declared.register.Register.{Register}
 use Rattle.machine.specs.declared.text.Text.{Text}
 use Rattle.std.specs.Option.{option_map}
@@ -19,14 +20,28 @@ texts_in ps k = option_map bytes_of (look same_key ps k)
 abbrev pub opened : Stock → List (TextKey × Text) → ℕ → Machine
 opened s ps c = record { source = s; aside = []; returned = []; delayed = []; held = []; clock = 0; texts = texts_in ps; many = length ps; capacity = c }
 
+-- a machine with the lists of a register in place of its own
+abbrev pub over : Machine → Lists → Machine
+over m l = record {
+  source = m.source;
+  aside = vec_items l.aside;
+  returned = vec_items l.returned;
+  delayed = vec_items l.delayed;
+  held = vec_items l.held;
+  clock = m.clock;
+  texts = m.texts;
+  many = m.many;
+  capacity = m.capacity;
+}
+
 -- from what its source and its store mean
 abbrev pub meaning : {S T : Type 0} → (S → Stock) → (T → List (TextKey × Text)) → (T → ℕ) → Register S T → Machine
 meaning stock pairs capacity r = record {
   source = stock r.source;
-  aside = vec_items r.aside;
-  returned = vec_items r.returned;
-  delayed = vec_items r.delayed;
-  held = vec_items r.held;
+  aside = vec_items r.lists.aside;
+  returned = vec_items r.lists.returned;
+  delayed = vec_items r.lists.delayed;
+  held = vec_items r.lists.held;
   clock = r.clock;
   texts = texts_in (pairs r.texts);
   many = length (pairs r.texts);

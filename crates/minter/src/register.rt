@@ -1,9 +1,7 @@
 // The register: what it keeps between calls.
-ghost use Rattle.std.specs.Prelude.{◌≡◌, ◌+◌, ◌≤◌, [], length, vec_len, vec_capacity};
-ghost use Rattle.minter.specs.Finds.{Once};
-ghost use Rattle.machine.specs.Machine.{outside};
+ghost use Rattle.std.specs.Prelude.{◌≡◌, ◌≤◌, []};
 
-use machine::call::Due;
+use crate::lists::Lists;
 use machine::text::Text;
 use sources::source::Source;
 use stores::store::Store;
@@ -17,40 +15,24 @@ mod queues;
 mod serves;
 mod texts;
 
-// Numbers passed by a mint while they were held; names taken back, those that are due and those that are not yet; the
-// numbers on hold, ascending. All memory is reserved when the register is made.
+// All memory is reserved when the register is made.
+// The contracts of its calls name `meaning` in place of an `impl Model`: a model hides the fields, and a refusal's `self.new ≡ self.old` would say less.
+// `Sound` and the store's `sound` stay premises of clauses: `open` takes any store with any pairs, and no public function asks anything of its caller.
 #[derive(Drop)]
 pub struct Register<S, T> {
     source: S,
     texts: T,
     clock: u64,
-    aside: Vec<u64>,
-    returned: Vec<u64>,
-    delayed: Vec<Due>,
-    held: Vec<u64>,
+    lists: Lists,
     ghost early: { clock ≤ 1000000000000 },
-    ghost aside_room: { 64 ≤ vec_capacity aside },
-    ghost returned_room: { 64 ≤ vec_capacity returned },
-    ghost delayed_room: { 64 ≤ vec_capacity delayed },
-    ghost held_room: { 64 ≤ vec_capacity held },
-    ghost held_once: { Once held.items },
-    ghost hold_places: { length aside.items + outside aside.items held.items ≤ 64 },
-    ghost queue_places: { vec_len returned + vec_len delayed ≤ 64 },
 }
 
 // The memory of a register, reserved before it is made.
 #[derive(Drop)]
 pub struct Room {
-    aside: Vec<u64>,
-    returned: Vec<u64>,
-    delayed: Vec<Due>,
-    held: Vec<u64>,
-    ghost aside_none: { aside.items ≡ [] },
-    ghost aside_room: { 64 ≤ vec_capacity aside },
-    ghost returned_none: { returned.items ≡ [] },
-    ghost returned_room: { 64 ≤ vec_capacity returned },
-    ghost delayed_none: { delayed.items ≡ [] },
-    ghost delayed_room: { 64 ≤ vec_capacity delayed },
-    ghost held_none: { held.items ≡ [] },
-    ghost held_room: { 64 ≤ vec_capacity held },
+    lists: Lists,
+    ghost aside_none: { lists.aside.items ≡ [] },
+    ghost returned_none: { lists.returned.items ≡ [] },
+    ghost delayed_none: { lists.delayed.items ≡ [] },
+    ghost held_none: { lists.held.items ≡ [] },
 }

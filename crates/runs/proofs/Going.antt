@@ -1,6 +1,6 @@
 -- A run that has made i of its calls.
 use Rattle.std.proofs.Common.{◌≡◌, ℕ, ◌+◌, ◌<◌, ◌≤◌, List, [], ◌∷◌, ◌++◌, length, get_or, take, drop, set, sym, refl, ap, ◌∙◌, subst, ap₂, append_assoc, arith}
-use Rattle.std.proofs.lemmas.List.{at_drop_more, at_drop_all, append-nil, get_or-take, length-take-le, take_more_set, drop-set-lt, drop-drop, take-append-drop}
+use Rattle.std.proofs.lemmas.List.{at_drop_more, at_drop_all, append-nil, length-take-le, take_more_set, drop-set-lt, drop-drop, take-append-drop}
 use Rattle.machine.specs.Calls.{Asked, asked, asks}
 use Rattle.machine.specs.Names.{Name}
 use Rattle.machine.specs.History.{History, event, told_after}
@@ -48,13 +48,12 @@ told_more named g m (c ∷ cs) bs = told_more named (event named c (step m c).1 
 
 -- a run over the first n of the calls, whose answers are written into a list; what lies past them is as it was
 module _ (kept kept' : Type 0) (m k k' : Machine) (calls : List Call) (n i : ℕ) (was out : List Answer) (a : Answer) (here : i < n) (fits : n ≤ length calls) (room : n ≤ length out) where
-  pub writes_on : k' ≡ (step k (asked (get_or calls i Mint))).0 → a ≡ (step k (asked (get_or calls i Mint))).1 → kept'
+  pub writes_on : k' ≡ (step k (asked (get_or (take n calls) i Mint))).0 → a ≡ (step k (asked (get_or (take n calls) i Mint))).1 → kept'
       → Going kept m k (take n calls) i (take i out) → Going kept' m k' (take n calls) (i + 1) (take (i + 1) (set out i a))
   writes_on e f s going =
-      let same : get_or (take n calls) i Mint ≡ get_or calls i Mint = get_or-take n calls i Mint here in
       let within : i < length (take n calls) = let l = length-take-le n calls fits in omega arith in
       goes_on kept kept' m k k' (take n calls) i (take i out) (take (i + 1) (set out i a)) a within
-      (e ∙ ap (λ (c : Call). (step k (asked c)).0) (sym same)) (f ∙ ap (λ (c : Call). (step k (asked c)).1) (sym same)) s (take_more_set out i a (omega arith)) going
+      e f s (take_more_set out i a (omega arith)) going
 
   pub past_stays : drop i out ≡ drop i was → drop (i + 1) (set out i a) ≡ drop (i + 1) was
   past_stays e = drop-set-lt (i + 1) out i a (omega arith) ∙ sym (drop-drop 1 i out) ∙ ap (drop 1) e ∙ drop-drop 1 i was

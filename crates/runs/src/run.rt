@@ -30,9 +30,8 @@ pub fn run<S: Source + Drop, T: Store<TextKey, Text> + Drop>(
     let mut out = Vec::with_capacity(heap, calls.len())?;
     let room = Room::new(heap)?;
     let mut reg = Register::open(room, source, texts);
-    for i in 0..calls.len() {
-        let a = reg.serve(&calls[i]);
-        out.push_reserved(a);
+    for call in calls {
+        out.push_reserved(reg.serve(call));
     }
     Ok((reg, out))
 }
@@ -54,8 +53,9 @@ pub fn run_in<S: Source, T: Store<TextKey, Text>>(
 {
     let mut reg = Register::open(room, source, texts);
     let served = calls.len().min(out.len());
-    for i in 0..served {
-        out[i] = reg.serve(&calls[i]);
+    for (i, call) in calls[..served].iter().enumerate() {
+        // By index: over `out.iter_mut().zip(calls)` it was tried and does not close, since nothing is known of a slice after an adapter of its `iter_mut`.
+        out[i] = reg.serve(call);
     }
     (reg, served)
 }

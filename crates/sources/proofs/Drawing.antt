@@ -1,7 +1,9 @@
 -- What giving one number does to the live subcounters, and what a new generator has. Assumes nothing.
-use Rattle.std.proofs.Common.{◌≡◌, ℕ, zero, suc, ◌+◌, ◌-◌, ◌*◌, ◌/◌, ◌<◌, ◌≤◌, min, true, false, cond, eqb, ltb, List, [], ◌∷◌, length, get_or, set, replicate, sym, refl, ap, ◌∙◌, subst, ⊎_elim, suc-mul, add-mul, one-mul, arith}
+use Rattle.std.proofs.Common.{◌≡◌, ℕ, zero, suc, ◌+◌, ◌-◌, ◌*◌, ◌<◌, ◌≤◌, min, true, false, cond, eqb, ltb, List, [], ◌∷◌, length, get_or, set, replicate, sym, refl, ap, ◌∙◌, subst, ⊎_elim, suc-mul, add-mul, one-mul, arith}
 use Rattle.std.proofs.lemmas.Bool.{cases_lt, cond-true, cond-false, lt-ltb, le-ltb, eq-eqb, ne_eqb}
-use Rattle.std.proofs.lemmas.Nat.{div-add-mod', mod_below, mul-le}
+use Rattle.std.proofs.lemmas.Nat.{mul-le}
+use Rattle.std.proofs.lemmas.Grind.{div_ceil_times}
+use Rattle.std.specs.Int.{div_ceil}
 use Rattle.sources.specs.Maps.{run, lacks}
 use Rattle.sources.specs.Subcounters.{share_of, covered, live_from, left_from}
 
@@ -47,36 +49,35 @@ live_spent t sh b (suc k) c v (g ∷ gs) e l h s =
 
 -- which of them have a number
 module _ (t sh : ℕ) (p : 0 < sh) where
-  reaches : (b : ℕ) → b < (t + sh - 1) / sh → b * sh < t
+  reaches : (b : ℕ) → b < div_ceil t sh → b * sh < t
   reaches b h =
-      let d = div-add-mod' (t + sh - 1) sh in
-      let m : (b + 1) * sh ≤ (t + sh - 1) / sh * sh = mul-le (b + 1) sh ((t + sh - 1) / sh) sh (omega arith) (omega arith) in
+      let d = div_ceil_times t sh p in
+      let m : (b + 1) * sh ≤ div_ceil t sh * sh = mul-le (b + 1) sh (div_ceil t sh) sh (omega arith) (omega arith) in
       let q : (b + 1) * sh ≡ b * sh + sh = add-mul b 1 sh ∙ ap (λ (x : ℕ). b * sh + x) (one-mul sh) in
       omega arith
 
-  passes : (b : ℕ) → (t + sh - 1) / sh ≤ b → t ≤ b * sh
+  passes : (b : ℕ) → div_ceil t sh ≤ b → t ≤ b * sh
   passes b h =
-      let d = div-add-mod' (t + sh - 1) sh in
-      let r = mod_below (t + sh - 1) sh p in
-      let m : (t + sh - 1) / sh * sh ≤ b * sh = mul-le ((t + sh - 1) / sh) sh b sh h (omega arith) in
+      let d = div_ceil_times t sh p in
+      let m : div_ceil t sh * sh ≤ b * sh = mul-le (div_ceil t sh) sh b sh h (omega arith) in
       omega arith
 
-pub live_new : (t sh : ℕ) → 0 < sh → (b k : ℕ) → live_from t sh b (replicate k 0) ≡ run b (min k ((t + sh - 1) / sh - b))
+pub live_new : (t sh : ℕ) → 0 < sh → (b k : ℕ) → live_from t sh b (replicate k 0) ≡ run b (min k (div_ceil t sh - b))
 unfolding run
-live_new t sh p b zero = let e : min 0 ((t + sh - 1) / sh - b) ≡ 0 = omega arith in sym (ap (run b) e)
+live_new t sh p b zero = let e : min 0 (div_ceil t sh - b) ≡ 0 = omega arith in sym (ap (run b) e)
 live_new t sh p b (suc k) =
     let ih = live_new t sh p (b + 1) k in
     ⊎_elim
-    (λ (h : b < (t + sh - 1) / sh).
+    (λ (h : b < div_ceil t sh).
     let q = reaches t sh p b h in
-    let e : min (suc k) ((t + sh - 1) / sh - b) ≡ suc (min k ((t + sh - 1) / sh - (b + 1))) = omega arith in
+    let e : min (suc k) (div_ceil t sh - b) ≡ suc (min k (div_ceil t sh - (b + 1))) = omega arith in
     cond-true _ _ _ (lt-ltb 0 (covered t sh b) (omega arith)) ∙ ap (λ (l : List ℕ). b ∷ l) ih ∙ sym (ap (run b) e))
-    (λ (h : (t + sh - 1) / sh ≤ b).
+    (λ (h : div_ceil t sh ≤ b).
     let q = passes t sh p b h in
-    let e : min (suc k) ((t + sh - 1) / sh - b) ≡ 0 = omega arith in
-    let e2 : min k ((t + sh - 1) / sh - (b + 1)) ≡ 0 = omega arith in
+    let e : min (suc k) (div_ceil t sh - b) ≡ 0 = omega arith in
+    let e2 : min k (div_ceil t sh - (b + 1)) ≡ 0 = omega arith in
     cond-false _ _ _ (le-ltb 0 (covered t sh b) (omega arith)) ∙ ih ∙ ap (run (b + 1)) e2 ∙ sym (ap (run b) e))
-    (cases_lt b ((t + sh - 1) / sh))
+    (cases_lt b (div_ceil t sh))
 
 left_new : (t sh b k : ℕ) → left_from t sh b (replicate k 0) ≡ min (k * sh) (t - b * sh)
 left_new t sh b zero = omega arith
@@ -90,15 +91,15 @@ pub left_all : (t : ℕ) → left_from t (share_of t) 0 (replicate 293 0) ≡ t
 left_all t = left_new t (share_of t) 0 293 ∙ omega arith
 
 -- at most 293 of them
-pub live_few : (t : ℕ) → (t + share_of t - 1) / share_of t ≤ 293
+pub live_few : (t : ℕ) → div_ceil t (share_of t) ≤ 293
 live_few t =
     ⊎_elim
-    (λ (h : 293 < (t + share_of t - 1) / share_of t). absurd (let q = reaches t (share_of t) (omega arith) 293 h in omega arith))
-    (λ (h : (t + share_of t - 1) / share_of t ≤ 293). h)
-    (cases_lt 293 ((t + share_of t - 1) / share_of t))
+    (λ (h : 293 < div_ceil t (share_of t)). absurd (let q = reaches t (share_of t) (omega arith) 293 h in omega arith))
+    (λ (h : div_ceil t (share_of t) ≤ 293). h)
+    (cases_lt 293 (div_ceil t (share_of t)))
 
-pub live_all : (t : ℕ) → live_from t (share_of t) 0 (replicate 293 0) ≡ run 0 ((t + share_of t - 1) / share_of t)
+pub live_all : (t : ℕ) → live_from t (share_of t) 0 (replicate 293 0) ≡ run 0 (div_ceil t (share_of t))
 live_all t =
     let few = live_few t in
-    let e : min 293 ((t + share_of t - 1) / share_of t - 0) ≡ (t + share_of t - 1) / share_of t = omega arith in
+    let e : min 293 (div_ceil t (share_of t) - 0) ≡ div_ceil t (share_of t) = omega arith in
     live_new t (share_of t) (omega arith) 0 293 ∙ ap (run 0) e

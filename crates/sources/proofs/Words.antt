@@ -1,8 +1,9 @@
 -- The set bits of a word, and the lowest of them. Assumes nothing.
-use Rattle.std.proofs.Common.{◌≡◌, ℕ, zero, suc, ◌+◌, ◌-◌, ◌*◌, ◌/◌, ◌%◌, ◌^◌, ◌<◌, ◌≤◌, min, true, false, cond, eqb, ◌⊎◌, List, [], ◌∷◌, ◌++◌, length, get_or, drop, set, sym, refl, ap, ◌∙◌, subst, ap₂, inl, inr, ⊎_elim, add-zero, mod-eq_of_lt, pow-suc, zero-add, arith, length-drop}
+use Rattle.std.proofs.Common.{◌≡◌, ℕ, zero, suc, ◌+◌, ◌-◌, ◌*◌, ◌/◌, ◌%◌, ◌^◌, ◌<◌, ◌≤◌, min, true, false, cond, eqb, ◌⊎◌, List, [], ◌∷◌, ◌++◌, length, get_or, drop, set, sum_by, sym, refl, ap, ◌∙◌, subst, ap₂, inl, inr, ⊎_elim, add-zero, mod-eq_of_lt, pow-suc, zero-add, arith, length-drop}
 use lib.Bits.{bit_and, and_step, and_self, and_mask}
 use lib.Count.{ones, ones_step, count_trailing_zeros, under}
-use Rattle.std.proofs.lemmas.List.{drop_more, length-append, get_or_append_left, get_or-append_right, append-nil}
+use Rattle.std.proofs.lemmas.List.{drop_more, length-append, append-nil}
+use Rattle.std.proofs.lemmas.List.Recursion.{is_sum_by}
 use Rattle.std.proofs.lemmas.Bool.{cases_eq, cases_lt, ne_eqb, eq-eqb, cond-true, cond-false}
 use Rattle.std.proofs.lemmas.Nat.{pow_pos, pow_below}
 use Rattle.sources.specs.Maps.{bits_from, live_in, run, lacks}
@@ -81,15 +82,25 @@ cleared b n i all f h e =
     let two : get_or all i 0 ∷ drop (i + 1) all ≡ (b + count_trailing_zeros 64 n) ∷ bits_from 64 b (bit_and n (n - 1)) = sym d ∙ e ∙ lowest 64 b n p f in
     (p, cc, cc)
 
--- the words of a map, one after another
-pub live_more : (b i : ℕ) (ws : List ℕ) → i < length ws → length (live_in b (drop i ws)) ≡ length (bits_from 64 b (get_or ws i 0)) + length (live_in (b + 64) (drop (i + 1) ws))
-live_more b i ws h = ap (λ (l : List ℕ). length (live_in b l)) (drop_more ws i 0 h) ∙ length-append (bits_from 64 b (get_or ws i 0)) (live_in (b + 64) (drop (i + 1) ws))
+-- where a word's bits are counted from changes no count
+long_same : (k b d n : ℕ) → length (bits_from k b n) ≡ length (bits_from k d n)
+unfolding bits_from
+long_same zero b d n = refl
+long_same (suc k) b d n =
+    let ih = long_same k (b + 1) (d + 1) (n / 2) in
+    elim (eqb (n % 2) 1) as (λ v. length (cond v (b ∷ bits_from k (b + 1) (n / 2)) (bits_from k (b + 1) (n / 2))) ≡ length (cond v (d ∷ bits_from k (d + 1) (n / 2)) (bits_from k (d + 1) (n / 2)))) [ true ↦ ap suc ih | false ↦ ih ]
 
-pub at_here : (b i k : ℕ) (ws : List ℕ) → i < length ws → k < length (bits_from 64 b (get_or ws i 0)) → get_or (live_in b (drop i ws)) k 0 ≡ get_or (bits_from 64 b (get_or ws i 0)) k 0
-at_here b i k ws h l = ap (λ (xs : List ℕ). get_or (live_in b xs) k 0) (drop_more ws i 0 h) ∙ get_or_append_left (bits_from 64 b (get_or ws i 0)) (live_in (b + 64) (drop (i + 1) ws)) 0 k l
+-- the words' ones summed
+pub live_sum : (b : ℕ) (ws : List ℕ) → length (live_in b ws) ≡ sum_by (λ w. length (bits_from 64 0 w)) ws
+live_sum b ws = same b ws ∙ is_sum_by ones_in (λ w. length (bits_from 64 0 w)) refl (λ _ _. refl) ws
+  where
+    ones_in : List ℕ → ℕ
+    ones_in [] = 0
+    ones_in (w ∷ ws) = length (bits_from 64 0 w) + ones_in ws
 
-pub at_later : (b i k n : ℕ) (ws : List ℕ) → i < length ws → n ≡ length (bits_from 64 b (get_or ws i 0)) → n ≤ k → get_or (live_in b (drop i ws)) k 0 ≡ get_or (live_in (b + 64) (drop (i + 1) ws)) (k - n) 0
-at_later b i k n ws h e l = ap (λ (xs : List ℕ). get_or (live_in b xs) k 0) (drop_more ws i 0 h) ∙ get_or-append_right (bits_from 64 b (get_or ws i 0)) (live_in (b + 64) (drop (i + 1) ws)) n k 0 (sym e) l
+    same : (b : ℕ) (ws : List ℕ) → length (live_in b ws) ≡ ones_in ws
+    same b [] = refl
+    same b (w ∷ ws) = length-append (bits_from 64 b w) (live_in (b + 64) ws) ∙ ap₂ (λ (m n : ℕ). m + n) (long_same 64 b 0 w) (same (b + 64) ws)
 
 -- ---- a bit cleared
 
@@ -193,7 +204,7 @@ run_append b (suc m) n =
     rw (e, e2) (ap (λ (l : List ℕ). b ∷ l) (run_append (b + 1) m n))
 
 -- a word of the lowest bits, and the words after it
-pub filled : (b n m w : ℕ) (rest : List ℕ) → ((d : ℕ) → bits_from 64 d w ≡ run d (min n 64)) → rest ≡ run (b + 64) m → m ≡ n - 64 → bits_from 64 b w ++ rest ≡ run b n
+filled : (b n m w : ℕ) (rest : List ℕ) → ((d : ℕ) → bits_from 64 d w ≡ run d (min n 64)) → rest ≡ run (b + 64) m → m ≡ n - 64 → bits_from 64 b w ++ rest ≡ run b n
 unfolding run
 filled b n m w rest h e d =
     ap₂ (λ (xs ys : List ℕ). xs ++ ys) (h b) e ∙ ⊎_elim
@@ -207,5 +218,12 @@ filled b n m w rest h e d =
     rw k (run_append b 64 m ∙ ap (run b) s))
     (cases_lt n 64)
 
-pub filled_last : (b n w : ℕ) → n ≤ 64 → ((d : ℕ) → bits_from 64 d w ≡ run d (min n 64)) → bits_from 64 b w ++ [] ≡ run b n
-filled_last b n w l h = let k : min n 64 ≡ n = omega arith in append-nil (bits_from 64 b w) ∙ h b ∙ ap (run b) k
+-- words of the lowest bits, each as many as are left for it
+pub all_filled : (b n : ℕ) (ws : List ℕ) → n ≤ 64 * length ws → ((i d : ℕ) → i < length ws → bits_from 64 d (get_or ws i 0) ≡ run d (min (n - 64 * i) 64)) → live_in b ws ≡ run b n
+unfolding run
+all_filled b n [] l h = let z : n ≡ 0 = omega arith in rw z refl
+all_filled b n (w ∷ ws) l h =
+    let first : (d : ℕ) → bits_from 64 d w ≡ run d (min n 64) = λ d. let e : n - 64 * 0 ≡ n = omega arith in rw e at (h 0 d (omega arith)) in
+    let later : (i d : ℕ) → i < length ws → bits_from 64 d (get_or ws i 0) ≡ run d (min (n - 64 - 64 * i) 64) = λ i d k.
+    let e : n - 64 * suc i ≡ n - 64 - 64 * i = omega arith in rw e at (h (suc i) d (omega arith)) in
+    filled b n (n - 64) w (live_in (b + 64) ws) first (all_filled (b + 64) (n - 64) ws (omega arith) later) refl

@@ -2,6 +2,8 @@
 ghost use Rattle.std.specs.Prelude.{◌≡◌, ℕ, ◌+◌, ◌*◌, ◌<◌, ◌≤◌, min, length, slice_index};
 ghost use Rattle.sources.specs.Maps.{bits_from, live_in, run, lacks};
 
+use std::array;
+
 // How many bits of a word are set.
 fn ones(word: u64) -> u64
     ensures counted { (b : ℕ) → result ≡ length (bits_from 64 b word) }
@@ -23,14 +25,11 @@ fn place(word: u64, base: u64, index: u64) -> u64
 }
 
 // How many subcounters are live.
+#[tactic(auto, using(crate::proofs::Words::live_sum))]
 pub(crate) fn count(map: &[u64; 5]) -> u64
     ensures { result ≡ length (live_in 0 map.now) }
 {
-    let mut sum = 0;
-    for word in map {
-        sum += ones(*word);
-    }
-    sum
+    map.iter().map(|word| ones(*word)).sum()
 }
 
 // The live subcounter at an index, counted from the lowest.
@@ -39,14 +38,12 @@ pub(crate) fn at(map: &[u64; 5], index: u64) -> u64
     ensures { result ≡ slice_index (live_in 0 map.now) index }
 {
     let mut left = index;
-    let mut base = 0;
-    for word in map {
+    for (i, word) in map.iter().enumerate() {
         let here = ones(*word);
         if left < here {
-            return place(*word, base, left);
+            return place(*word, 64 * i as u64, left);
         }
         left -= here;
-        base += 64;
     }
     unreachable()
 }
@@ -67,13 +64,7 @@ pub(crate) fn fresh(live: u64) -> [u64; 5]
     requires { live ≤ 320 }
     ensures { live_in 0 result ≡ run 0 live }
 {
-    [
-        lowest(live),
-        lowest(live.saturating_sub(64)),
-        lowest(live.saturating_sub(128)),
-        lowest(live.saturating_sub(192)),
-        lowest(live.saturating_sub(256)),
-    ]
+    array::from_fn(|i| lowest(live.saturating_sub(64 * i as u64)))
 }
 
 // The word without its bit at a place.

@@ -1,37 +1,28 @@
 // Lists of queued numbers with the seconds at which they are due.
-ghost use Rattle.std.specs.Prelude.{◌≡◌, ◌+◌, ◌≤◌, true, false, is_some, vec_len, vec_capacity};
+ghost use Rattle.std.specs.Prelude.{◌≡◌, ◌+◌, ◌≤◌, true, false, min, map, filter, is_some, nat_le, vec_len, vec_capacity};
+ghost use Rattle.std.specs.List.{reduce};
 ghost use Rattle.sources.specs.Lists.{has, first, rest};
+ghost use Rattle.machine.specs.declared.call.Due.{Due};
 ghost use Rattle.machine.specs.Machine.{numbers, by, later_than, in_order};
-ghost use Rattle.minter.specs.Finds.{soonest};
 
 use machine::call::Due;
 
 // Whether n is queued in the list.
+#[tactic(auto, using(crate::proofs::Found::has_queued))]
 pub(crate) fn queued(dues: &[Due], n: u64) -> bool
     ensures { result ≡ has n (numbers dues.now) }
 {
-    for due in dues {
-        if due.number == n {
-            return true;
-        }
-    }
-    false
+    dues.iter().any(|due| due.number == n)
 }
 
-// The place of the first number due soonest, by a second at the latest; the length where none is.
-fn soonest(dues: &[Due], until: u64) -> usize
-    ensures { result ≡ (soonest until dues.now).0 }
+// The soonest second at which something is due, by a second at the latest.
+fn soonest(dues: &[Due], until: u64) -> Option<u64>
+    ensures { result ≡ reduce min (map (λ (d : Due). d.second) (filter (λ (d : Due). nat_le d.second until) dues.now)) }
 {
-    let mut at = dues.len();
-    let mut least = until;
-    for i in (0..dues.len()).rev() {
-        let second = dues[i].second;
-        if second <= least {
-            at = i;
-            least = second;
-        }
-    }
-    at
+    dues.iter()
+        .filter(|due| due.second <= until)
+        .map(|due| due.second)
+        .min()
 }
 
 // Takes out the first number due soonest, if one is due by then.
@@ -44,11 +35,7 @@ pub(crate) fn take_soonest(dues: &mut Vec<Due>, until: u64) -> Option<u64>
     ensures same { is_some result ≡ false → dues.new ≡ dues.old }
     ensures capacity { vec_capacity dues.new ≡ vec_capacity dues.old }
 {
-    let at = soonest(dues.as_slice(), until);
-    if at < dues.len() {
-        let due = dues.remove(at);
-        Some(due.number)
-    } else {
-        None
-    }
+    let second = soonest(dues, until)?;
+    let at = dues.iter().position(|due| due.second == second)?;
+    Some(dues.remove(at).number)
 }

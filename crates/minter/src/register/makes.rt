@@ -5,6 +5,7 @@ ghost use Rattle.minter.specs.Meaning.{meaning, opened};
 ghost use Rattle.machine.specs.Runs.{Sound};
 
 use super::{Register, Room};
+use crate::lists::Lists;
 use machine::text::Text;
 use sources::source::Source;
 use std::alloc::{AllocError, Global};
@@ -14,18 +15,15 @@ use stores::text::TextKey;
 impl Room {
     // Reserves the memory of a register.
     pub fn new(heap: Global) -> Result<Room, AllocError>
-        ensures { IfOk result (λ room. (room.aside.items ≡ []) × (room.returned.items ≡ []) × (room.delayed.items ≡ []) × (room.held.items ≡ [])) }
+        ensures { IfOk result (λ room. (room.lists.aside.items ≡ []) × (room.lists.returned.items ≡ []) × (room.lists.delayed.items ≡ []) × (room.lists.held.items ≡ [])) }
     {
-        let aside = Vec::with_capacity(heap, 64)?;
-        let returned = Vec::with_capacity(heap, 64)?;
-        let delayed = Vec::with_capacity(heap, 64)?;
-        let held = Vec::with_capacity(heap, 64)?;
-        Ok(Room {
-            aside,
-            returned,
-            delayed,
-            held,
-        })
+        let lists = Lists {
+            aside: Vec::with_capacity(heap, 64)?,
+            returned: Vec::with_capacity(heap, 64)?,
+            delayed: Vec::with_capacity(heap, 64)?,
+            held: Vec::with_capacity(heap, 64)?,
+        };
+        Ok(Room { lists })
     }
 }
 
@@ -37,20 +35,12 @@ impl<S: Source, T: Store<TextKey, Text>> Register<S, T> {
         ensures fresh { T.Store.pairs texts ≡ [] → meaning S.Source.stock T.Store.pairs T.Store.capacity result ≡ fresh (S.Source.stock source) (T.Store.capacity texts) }
         ensures sound { T.Store.pairs texts ≡ [] → Sound (meaning S.Source.stock T.Store.pairs T.Store.capacity result) }
     {
-        let Room {
-            aside,
-            returned,
-            delayed,
-            held,
-        } = room;
+        let Room { lists } = room;
         Register {
             source,
             texts,
             clock: 0,
-            aside,
-            returned,
-            delayed,
-            held,
+            lists,
         }
     }
 }

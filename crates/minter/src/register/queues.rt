@@ -1,12 +1,10 @@
 // Taking names back, and the clock.
-ghost use Rattle.std.specs.Prelude.{◌≡◌, false, ◌++◌, is_ok};
-ghost use Rattle.machine.specs.Machine.{queue, tick, numbers, by, later_than, in_order};
-ghost use Rattle.minter.specs.Meaning.{meaning, due_by};
+ghost use Rattle.std.specs.Prelude.{◌≡◌, false, is_ok};
+ghost use Rattle.machine.specs.Machine.{queue, tick};
+ghost use Rattle.minter.specs.Meaning.{meaning};
 ghost use Rattle.machine.specs.Runs.{Sound};
 
 use super::Register;
-use crate::lists::dues::take_soonest;
-use crate::lists::numbers::contains;
 use machine::call::Due;
 use machine::fault::RegisterFault;
 use machine::text::Text;
@@ -15,17 +13,6 @@ use stores::store::Store;
 use stores::text::TextKey;
 
 impl<S: Source, T: Store<TextKey, Text>> Register<S, T> {
-    // Moves what is due by a second to the end of returned, the soonest first.
-    fn return_due(&mut self, until: u64)
-        ensures after { meaning S.Source.stock T.Store.pairs T.Store.capacity self.new ≡ due_by until (meaning S.Source.stock T.Store.pairs T.Store.capacity self.old) }
-        ensures clock { self.new.clock ≡ self.old.clock }
-        ensures texts { self.new.texts ≡ self.old.texts }
-    {
-        while let Some(n) = take_soonest(&mut self.delayed, until) {
-            self.returned.push_reserved(n);
-        }
-    }
-
     // Sets the clock; what is due by then is taken back.
     pub fn tick(&mut self, to: u64) -> Result<u64, RegisterFault>
         ensures after { meaning S.Source.stock T.Store.pairs T.Store.capacity self.new ≡ (tick (meaning S.Source.stock T.Store.pairs T.Store.capacity self.old) to).0 }
@@ -37,7 +24,7 @@ impl<S: Source, T: Store<TextKey, Text>> Register<S, T> {
         if to < self.clock || to > 1_000_000_000_000 {
             return Err(RegisterFault::Clock);
         }
-        self.return_due(to);
+        self.lists.return_due(to);
         self.clock = to;
         Ok(to)
     }
@@ -57,20 +44,20 @@ impl<S: Source, T: Store<TextKey, Text>> Register<S, T> {
         if self.waits(n) {
             return Err(RegisterFault::Waits);
         }
-        if contains(self.held.as_slice(), n) {
+        if self.lists.holds(n) {
             return Err(RegisterFault::IsHeld);
         }
         if self.has_text(n) {
             return Err(RegisterFault::HasText);
         }
-        if self.returned.len() + self.delayed.len() >= 64 {
+        if self.lists.returned.len() + self.lists.delayed.len() >= 64 {
             return Err(RegisterFault::QueuePlaces);
         }
         if delay == 0 {
-            self.returned.push_reserved(n);
+            self.lists.returned.push_reserved(n);
         } else {
             let second = self.clock + delay;
-            self.delayed.push_reserved(Due { number: n, second });
+            self.lists.delayed.push_reserved(Due { number: n, second });
         }
         Ok(n)
     }

@@ -34,10 +34,9 @@ impl<S: Source, T: Store<TextKey, Text>> Register<S, T> {
     pub(crate) fn has_text(&self, n: u64) -> bool
         ensures { T.Store.sound self.now.texts → result ≡ text_bound (meaning S.Source.stock T.Store.pairs T.Store.capacity self.now) n }
     {
-        self.has_text_under(n, Element::Who)
-            || self.has_text_under(n, Element::What)
-            || self.has_text_under(n, Element::When)
-            || self.has_text_under(n, Element::Where)
+        [Element::Who, Element::What, Element::When, Element::Where]
+            .iter()
+            .any(|element| self.has_text_under(n, *element))
     }
 
     // Puts a text under n and an element, where the store takes it.
@@ -48,10 +47,7 @@ impl<S: Source, T: Store<TextKey, Text>> Register<S, T> {
         ensures store { T.Store.sound self.old.texts → T.Store.sound self.new.texts }
     {
         let key = TextKey { number: n, element };
-        match self.texts.put(key, value) {
-            Ok(()) => Ok(()),
-            Err(fault) => Err(RegisterFault::Store(fault)),
-        }
+        Ok(self.texts.put(key, value)?)
     }
 
     // Puts a text of at most 40 bytes under a minted name and an element.

@@ -51,6 +51,7 @@ impl<C: Chooser> Source for Generator<C> {
         self.subcounters.stand(n)
     }
 
+    #[tactic(auto, using(crate::proofs::Generating::length_ahead))]
     fn left(&self) -> u64 {
         self.subcounters.left()
     }

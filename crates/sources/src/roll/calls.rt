@@ -7,7 +7,7 @@ ghost use Rattle.sources.specs.Rolls.{first_wrong, accepted, refusal_at};
 ghost use Rattle.sources.specs.Stock.{is_given};
 
 use super::Roll;
-use super::look::{first_wrong, holds};
+use super::look::first_wrong;
 use crate::fault::SourceFault;
 use crate::source::{Source, Stand};
 use names::fault::NameFault;
@@ -16,29 +16,23 @@ use names::template::Template;
 
 impl<'a> Roll<'a> {
     // A roll over the numbers, none given; where they have a wrong one, an empty roll beside its fault.
+    // A pair and no `Result`, by the project's rules: a caller has a roll to go on with either way.
     pub fn new(template: Template, numbers: &'a [u64]) -> (Roll<'a>, Option<SourceFault>)
         ensures made { roll_stock result.0 ≡ new_stock template (accepted (first_wrong (total_of template) [] numbers.now) numbers.now) }
         ensures fault { result.1 ≡ refusal_at (first_wrong (total_of template) [] numbers.now) }
         ensures fresh { (n : ℕ) → is_given ((roll_stock result.0).stands n) ≡ false }
     {
-        match first_wrong(numbers, template.total()) {
-            None => (
-                Roll {
-                    template,
-                    numbers,
-                    used: 0,
-                },
-                None,
-            ),
-            Some(i) => (
-                Roll {
-                    template,
-                    numbers: &numbers[0..0],
-                    used: 0,
-                },
-                Some(SourceFault::Roll(i)),
-            ),
-        }
+        let wrong = first_wrong(numbers, template.total());
+        let numbers = match wrong {
+            None => numbers,
+            Some(_) => &[],
+        };
+        let roll = Roll {
+            template,
+            numbers,
+            used: 0,
+        };
+        (roll, wrong.map(SourceFault::Roll))
     }
 }
 
@@ -48,22 +42,21 @@ impl Source for Roll<'_> {
     ghost lawful = { roll_lawful };
 
     fn draw(&mut self) -> Option<u64> {
-        if self.used >= self.numbers.len() {
-            return None;
-        }
-        let n = self.numbers[self.used];
+        let n = *self.numbers.get(self.used)?;
         self.used += 1;
         Some(n)
     }
 
+    #[tactic(auto, using(crate::proofs::Looks::has_any))]
     fn stand(&self, n: u64) -> Stand {
-        if holds(&self.numbers[self.used..], n) {
-            return Stand::Ahead;
+        let (given, ahead) = self.numbers.split_at(self.used);
+        if ahead.contains(&n) {
+            Stand::Ahead
+        } else if given.contains(&n) {
+            Stand::Given
+        } else {
+            Stand::Foreign
         }
-        if holds(&self.numbers[0..self.used], n) {
-            return Stand::Given;
-        }
-        Stand::Foreign
     }
 
     fn left(&self) -> u64 {

@@ -7,14 +7,6 @@ use super::Subcounters;
 use crate::livemap::{at, clear, count, fresh};
 use crate::source::Stand;
 
-// How many numbers subcounter c covers.
-fn size(total: u64, share: u64, c: usize) -> u64
-    requires { (share ≤ 2 ^ 39) × (c < 293) }
-    ensures { result ≡ covered total share c }
-{
-    share.min(total.saturating_sub(c as u64 * share))
-}
-
 impl Subcounters {
     // Over the numbers below a total, none given.
     pub(crate) fn new(total: u64) -> Subcounters
@@ -22,8 +14,7 @@ impl Subcounters {
         ensures { Unused total result }
     {
         let share = total / 293 + 1;
-        let live = (total + share - 1) / share;
-        let map = fresh(live);
+        let map = fresh(total.div_ceil(share));
         Subcounters {
             total,
             share,
@@ -31,6 +22,15 @@ impl Subcounters {
             counts: [0; 293],
             map,
         }
+    }
+
+    // How many numbers subcounter c covers.
+    fn size(&self, c: usize) -> u64
+        requires { c < 293 }
+        ensures { result ≡ covered self.now.total self.now.share c }
+    {
+        self.share
+            .min(self.total.saturating_sub(c as u64 * self.share))
     }
 
     // How many subcounters are live.
@@ -58,7 +58,7 @@ impl Subcounters {
     {
         let c = self.find(index);
         let before = self.counts[c];
-        let spent = before + 1 == size(self.total, self.share, c);
+        let spent = before + 1 == self.size(c);
         let number = c as u64 * self.share + before;
         self.counts[c] = before + 1;
         self.draws += 1;

@@ -9,15 +9,15 @@ use Rattle.runs.proofs.Going.{goes_on, all_after, all_answers}
 use Rattle.machine.proofs.Runs.{from_new, fresh_sound, first_turns, same_naming}
 use Rattle.runs.proofs.run.run.Goals as goal
 
-pub loop-i-preserved : goal.loop-i-preserved
-loop-i-preserved g c = (
+pub loop-call-preserved : goal.loop-call-preserved
+loop-call-preserved g c = (
   search rules,
   search rules,
-  λ s k. let going = c.loop-i.invariant.2 s k in
-      goes_on _ _ _ _ _ c.args.calls.now c.loop-i.i _ _ c.serve-a.result c.loop-i-test.true
-      (c.serve-a.ensures.after going.sound going.store)
-      (c.serve-a.ensures.answer going.sound going.store)
-      (c.serve-a.ensures.store going.store)
+  λ s k. let going = c.loop-call.invariant.2 s k in
+      goes_on _ _ _ _ _ c.args.calls.now c.loop-call.call-index _ _ c.serve.result c.loop-call-test.true
+      (c.serve.ensures.after going.sound going.store)
+      (c.serve.ensures.answer going.sound going.store)
+      (c.serve.ensures.store going.store)
       c.push_reserved.ensures.items
       going,
 )
@@ -30,11 +30,11 @@ returns g c =
     let lawful = g.S.Source.lawful c.args.source in
     let opened = c.open-reg.ensures in
     let at-start = λ (k : g.T.Store.sound c.args.texts) (e : g.T.Store.pairs c.args.texts ≡ _).
-    c.loop-i.invariant.2 (subst Sound (sym (opened.fresh e)) (fresh_sound s cap lawful)) (subst (λ t. g.T.Store.sound t) (sym opened.parts.1) k) in
+    c.loop-call.invariant.2 (subst Sound (sym (opened.fresh e)) (fresh_sound s cap lawful)) (subst (λ t. g.T.Store.sound t) (sym opened.parts.1) k) in
     let told-answers = λ (k : g.T.Store.sound c.args.texts) (e : g.T.Store.pairs c.args.texts ≡ _).
-    all_answers _ _ _ calls c.loop-i.i _ c.loop-i-test.false (at-start k e) ∙ ap (λ (m : Machine). answers m (asks calls)) (opened.fresh e) in
+    all_answers _ _ _ calls c.loop-call.call-index _ c.loop-call-test.false (at-start k e) ∙ ap (λ (m : Machine). answers m (asks calls)) (opened.fresh e) in
     let ended = λ (k : g.T.Store.sound c.args.texts) (e : g.T.Store.pairs c.args.texts ≡ _).
-    all_after _ _ _ calls c.loop-i.i _ c.loop-i-test.false (at-start k e) ∙ ap (λ (m : Machine). final m (asks calls)) (opened.fresh e) in
+    all_after _ _ _ calls c.loop-call.call-index _ c.loop-call-test.false (at-start k e) ∙ ap (λ (m : Machine). final m (asks calls)) (opened.fresh e) in
     let naming = same_naming (fresh s cap) (asks calls) (fresh_sound s cap lawful) in
     record {
       answers = told-answers;

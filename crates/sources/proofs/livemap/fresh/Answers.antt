@@ -1,12 +1,10 @@
--- Word by word, from the last. Assumes nothing.
-use Rattle.std.proofs.Common.{arith}
-use Rattle.sources.proofs.Words.{filled, filled_last}
+-- Each word has the lowest bits that are left for it. Assumes nothing.
+use Rattle.std.proofs.Common.{arith, rules}
+use Rattle.sources.proofs.Words.{all_filled}
 use Rattle.sources.proofs.livemap.fresh.Goals as goal
 
 pub returns : goal.returns
 returns c =
-    let four = filled_last 256 c.saturating_sub-4.result c.lowest-5.result (omega arith) c.lowest-5.ensures in
-    let three = filled 192 c.saturating_sub-3.result c.saturating_sub-4.result c.lowest-4.result _ c.lowest-4.ensures four (omega arith) in
-    let two = filled 128 c.saturating_sub-2.result c.saturating_sub-3.result c.lowest-3.result _ c.lowest-3.ensures three (omega arith) in
-    let one = filled 64 c.saturating_sub.result c.saturating_sub-2.result c.lowest-2.result _ c.lowest-2.ensures two (omega arith) in
-    filled 0 c.args.live c.saturating_sub.result c.lowest.result _ c.lowest.ensures one (omega arith)
+    let made = c.from_fn.ensures.items in
+    let long = made.long in
+    all_filled 0 c.args.live c.from_fn.result (omega arith) (λ i d l. let call = (made.at i 0 (omega arith)).2 in search rules)

@@ -1,12 +1,9 @@
 -- Clearing the lowest set bit `index` times leaves the bit that is asked for as the lowest. Assumes nothing.
-use Rattle.std.proofs.Common.{◌≡◌, ℕ, ◌-◌, ◌^◌, ◌<◌, length, get_or, sym, refl, ap, ◌∙◌, arith}
+use Rattle.std.proofs.Common.{◌≡◌, ℕ, ◌-◌, ◌^◌, ◌<◌, length, get_or, sym, ap, ◌∙◌, arith}
 use lib.Bits.{and_le_l}
 use Rattle.sources.specs.Maps.{bits_from}
 use Rattle.sources.proofs.Words.{cleared}
 use Rattle.sources.proofs.livemap.place.Goals as goal
-
-pub loop-init : goal.loop-init
-loop-init c = (c.ranges.word.fits, refl)
 
 pub overflow_sub-left : goal.overflow_sub-left
 overflow_sub-left c =

@@ -1,15 +1,12 @@
-use Rattle.std.proofs.Common.{sym, ◌∙◌}
-use Rattle.std.proofs.lemmas.List.{at_drop_all}
-use Rattle.sources.specs.Lists.{has}
-use Rattle.machine.specs.Machine.{numbers}
-use Rattle.minter.proofs.Walk.{queued_step, queued_here}
+-- Whether a number is queued. Assumes nothing.
+use Rattle.std.proofs.Common.{nat_eq, sym, ◌∙◌, rules, tests}
+use Rattle.machine.specs.declared.call.Due.{Due}
+use Rattle.std.proofs.lemmas.Iterator.{YieldsList-from_slice}
+use Rattle.std.proofs.lemmas.Iterator.Search.{any_from_yields_List}
+use Rattle.minter.proofs.Found.{has_queued}
 use Rattle.minter.proofs.lists.dues.queued.Goals as goal
 
-pub returns-then-due-n : goal.returns-then-due-n
-returns-then-due-n c = sym (queued_here c.args.n c.args.dues.now c.loop-due.due-index c.loop-due-test.true c.if-due-n.true) ∙ c.loop-due.invariant
-
-pub loop-due-preserved : goal.loop-due-preserved
-loop-due-preserved c = queued_step c.args.n c.args.dues.now c.loop-due.due-index c.loop-due-test.true c.if-due-n.false ∙ c.loop-due.invariant
-
 pub returns : goal.returns
-returns c = sym (at_drop_all (λ ys. has c.args.n (numbers ys)) c.args.dues.now c.loop-due.due-index c.loop-due-test.false) ∙ c.loop-due.invariant
+returns c =
+    any_from_yields_List (λ (d : Due). nat_eq d.number c.args.n) _ _ _ c.any.ensures.ran (YieldsList-from_slice c.args.dues.now cc) (λ x b q k. search (rules, tests))
+    ∙ sym (has_queued c.args.n c.args.dues.now)

@@ -1,23 +1,16 @@
-use Rattle.std.proofs.Common.{ℕ, leb, List, length, vec_items, sym, ap, ◌∙◌, arith}
+-- Where a number is put into an ascending list. Assumes nothing.
+use Rattle.std.proofs.Common.{nat_lt, vec_items, unwrap_or, ap, ap₂, sym, ◌∙◌, rules, tests}
 use Rattle.std.specs.List.{insert}
+use Rattle.std.proofs.lemmas.Iterator.{YieldsList-from_slice}
+use Rattle.std.proofs.lemmas.Iterator.Search.{position_from_yields_List}
 use Rattle.std.proofs.lemmas.Bool.{cond-true}
-use Rattle.machine.specs.Machine.{front}
-use Rattle.minter.proofs.Found.{added_is, front_short}
+use Rattle.minter.proofs.Found.{added_is, found_or_len}
 use Rattle.minter.proofs.lists.numbers.add.Goals as goal
 
-pub insert-requires : goal.insert-requires
-insert-requires c =
-    let k = front_short (λ x. leb x c.args.n) c.as_slice.result.now in
-    omega (arith, c.as_slice.ensures.len, c.place_above-at.ensures)
-
-pub returns : goal.returns
-returns c =
+pub returns-clause-items : goal.returns-clause-items
+returns-clause-items c =
     let xs = vec_items c.args.xs.now in
-    let e = c.insert.ensures in
-    let ok = e.succeeds c.requires in
-    let at = c.place_above-at.ensures ∙ ap (λ (ys : List ℕ). length (front (λ x. leb x c.args.n) ys)) c.as_slice.ensures.value in
-    record {
-      items = e.items ∙ cond-true _ _ _ ok ∙ ap (λ (i : ℕ). insert xs i c.args.n) at ∙ sym (added_is c.args.n xs);
-      len = e.len ∙ cond-true _ _ _ ok;
-      capacity = (e.in_place c.requires).1.0;
-    }
+    let n = c.args.n in
+    let found = position_from_yields_List (λ x. nat_lt n x) _ _ c.position.result c.position.ensures.ran (YieldsList-from_slice xs cc) (λ x b q k. search (rules, tests)) in
+    let at = c.unwrap_or-at.ensures ∙ ap₂ unwrap_or found (c.len.ensures ∙ c.args.xs.now.ok.0) ∙ found_or_len (λ x. nat_lt n x) xs in
+    c.insert.ensures.items ∙ cond-true _ _ _ (c.insert.ensures.succeeds c.requires) ∙ ap (λ i. insert xs i n) at ∙ sym (added_is n xs)

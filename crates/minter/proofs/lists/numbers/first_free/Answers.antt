@@ -1,20 +1,15 @@
-use Rattle.std.proofs.Common.{sym, ◌∙◌, arith}
-use Rattle.sources.specs.Lists.{has}
-use Rattle.minter.proofs.Walk.{front_step, front_here, front_end}
+-- The first number that is not held. Assumes nothing.
+use Rattle.std.proofs.Common.{not, nat_eq, position, ap, sym, ◌∙◌, rules, tests}
+use mathlib.Core.Path.{fun_ext}
+use Rattle.std.specs.List.{list_any}
+use Rattle.std.proofs.lemmas.Iterator.{YieldsList-from_slice}
+use Rattle.std.proofs.lemmas.Iterator.Search.{position_from_yields_List}
+use Rattle.sources.proofs.Looks.{has_any}
 use Rattle.minter.proofs.lists.numbers.first_free.Goals as goal
 
-pub loop-i-init : goal.loop-i-init
-loop-i-init c = omega arith
-
-pub returns-then-not-contains : goal.returns-then-not-contains
-returns-then-not-contains c =
-    let e = front_here (λ x. has x c.args.held.now) c.args.xs.now c.loop-i.i c.loop-i-test.true (sym c.contains.ensures ∙ c.if-not-contains.true) in
-    omega (arith, e, c.loop-i.invariant)
-
-pub loop-i-preserved : goal.loop-i-preserved
-loop-i-preserved c =
-    let e = front_step (λ x. has x c.args.held.now) c.args.xs.now c.loop-i.i c.loop-i-test.true (sym c.contains.ensures ∙ c.if-not-contains.false) in
-    omega (arith, e, c.loop-i.invariant)
-
 pub returns : goal.returns
-returns c = omega (arith, front_end (λ x. has x c.args.held.now) c.args.xs.now c.loop-i.i c.loop-i-test.false, c.loop-i.invariant)
+returns c =
+    let xs = c.args.xs.now in
+    let held = c.args.held.now in
+    position_from_yields_List (λ x. not (list_any (λ y. nat_eq y x) held)) _ _ c.position.result c.position.ensures.ran (YieldsList-from_slice xs cc) (λ x b q k. search (rules, tests))
+    ∙ ap (λ p. position p xs) (fun_ext (λ x. ap not (sym (has_any x held))))

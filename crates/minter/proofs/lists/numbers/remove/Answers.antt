@@ -1,19 +1,19 @@
-use Rattle.std.proofs.Common.{ℕ, not, eqb, List, length, vec_items, sym, refl, ap, ◌∙◌, arith}
-use Rattle.std.specs.List.{remove}
-use Rattle.machine.specs.Machine.{front}
-use Rattle.minter.proofs.Found.{remove_some, remove_none}
+-- Where a number is taken out of a list. Assumes nothing.
+use Rattle.std.proofs.Common.{◌≡◌, true, false, nat_eq, vec_items, sym, ◌∙◌, rules, tests}
+use Rattle.std.proofs.lemmas.Iterator.{YieldsList-from_slice, IsFirst-from_position}
+use Rattle.minter.proofs.Found.{without_found}
 use Rattle.minter.proofs.lists.numbers.remove.Goals as goal
 
-pub returns-then-at-len : goal.returns-then-at-len
-returns-then-at-len c =
+pub returns-in-Some-clause-items : goal.returns-in-Some-clause-items
+returns-in-Some-clause-items c =
     let xs = vec_items c.args.xs.now in
-    let at = c.place_of-at.ensures ∙ ap (λ (ys : List ℕ). length (front (λ x. not (eqb c.args.n x)) ys)) c.as_slice.ensures.value in
-    let b = remove_some c.args.n xs (omega (arith, ap {B = ℕ} length c.as_slice.ensures.value, c.as_slice.ensures.len)) in
-    record { items = c.remove.ensures.items ∙ ap (remove xs) at ∙ sym b.1; capacity = c.remove.ensures.capacity }
+    let n = c.args.n in
+    let found = IsFirst-from_position _ _ c.position.result (λ x. nat_eq x n ≡ true) (λ x. nat_eq x n ≡ false) c.position.ensures.ran (YieldsList-from_slice xs cc) (λ x q k. search (rules, tests)) (λ x q k. search (rules, tests)) in
+    c.remove.ensures.items ∙ sym (rw c.in-Some.is at (without_found n xs c.position.result found))
 
-pub returns-else-at-len : goal.returns-else-at-len
-returns-else-at-len c =
+pub returns-in_default-clause-items : goal.returns-in_default-clause-items
+returns-in_default-clause-items c =
     let xs = vec_items c.args.xs.now in
-    let at = c.place_of-at.ensures ∙ ap (λ (ys : List ℕ). length (front (λ x. not (eqb c.args.n x)) ys)) c.as_slice.ensures.value in
-    let b = remove_none c.args.n xs (omega (arith, ap {B = ℕ} length c.as_slice.ensures.value, c.as_slice.ensures.len)) in
-    record { items = sym b.1; capacity = refl }
+    let n = c.args.n in
+    let found = IsFirst-from_position _ _ c.position.result (λ x. nat_eq x n ≡ true) (λ x. nat_eq x n ≡ false) c.position.ensures.ran (YieldsList-from_slice xs cc) (λ x q k. search (rules, tests)) (λ x q k. search (rules, tests)) in
+    sym (rw c.in_default.is at (without_found n xs c.position.result found))

@@ -1,3 +1,4 @@
+-- As many held numbers are ahead as are left exactly where all are held. Assumes nothing.
 use Rattle.std.proofs.Common.{ℕ, eqb, vec_items, ◌∙◌, ap₂}
 use Rattle.sources.specs.Stock.{is_ahead}
 use Rattle.minter.proofs.Stops.{all_stopped}
@@ -9,4 +10,4 @@ returns g c =
     let k = g.S.Source.stock s.source in
     let l = g.S.Source.lawful s.source in
     ap₂ (λ (a b : ℕ). eqb a b) c.held_ahead.ensures c.left.ensures
-    ∙ all_stopped (λ x. is_ahead (k.stands x)) (vec_items s.held) k.ahead l.listed s.held_once l.once
+    ∙ all_stopped (λ x. is_ahead (k.stands x)) (vec_items s.lists.held) k.ahead l.listed s.lists.held_once l.once

@@ -1,11 +1,9 @@
 -- A new generator's state. Assumes nothing.
-use Rattle.std.proofs.Common.{sym, refl, ◌∙◌, zero-add, arith}
+use Rattle.std.proofs.Common.{sym, refl, ap, ◌∙◌, zero-add}
+use Rattle.sources.specs.Maps.{run}
 use Rattle.sources.specs.Subcounters.{none_given}
-use Rattle.sources.proofs.Drawing.{live_few, live_all, left_all}
+use Rattle.sources.proofs.Drawing.{live_all, left_all}
 use Rattle.sources.proofs.subcounters.Subcounters.new.Goals as goal
-
-pub fresh-map-requires : goal.fresh-map-requires
-fresh-map-requires c = let few = live_few c.args.total in omega arith
 
 pub invariant_of-result : goal.invariant_of-result
 invariant_of-result c = record {
@@ -13,7 +11,7 @@ invariant_of-result c = record {
   small = c.requires;
   shared = refl;
   counted = zero-add _ ∙ left_all c.args.total;
-  mapped = c.fresh-map.ensures ∙ sym (live_all c.args.total);
+  mapped = c.fresh-map.ensures ∙ ap (run 0) c.div_ceil.ensures ∙ sym (live_all c.args.total);
 }
 
 pub returns : goal.returns
