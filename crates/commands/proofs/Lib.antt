@@ -1,6 +1,6 @@
 pub mod Brief
-pub mod Digits
 pub mod Fairness
+pub mod Numbers
 pub mod Places
 pub mod Refusals
 pub mod Spelling

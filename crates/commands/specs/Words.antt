@@ -3,7 +3,8 @@
 -- texts: their texts
 -- pick: what a word stands for in a table of words, if it is one of them
 -- heads, openings, turns, edits, elements: the words of the commands, and the element words
-use Rattle.std.specs.Prelude.{ℕ, ◌+◌, cond, List, [], ◌∷◌, Some, None, codes, Option, ◌==◌}
+-- plain, all_plain: the bytes of a word, and of each of a table's words, are below 128
+use Rattle.std.specs.Prelude.{ℕ, ◌+◌, Bool, true, cond, ◌&&◌, List, [], ◌∷◌, Some, None, codes, Option, ◌==◌, nat_lt}
 use Rattle.commands.specs.declared.word.Edit.{Edit}
 use Rattle.commands.specs.declared.word.Edit.TheVariants as edit
 use Rattle.commands.specs.declared.word.Head.{Head}
@@ -63,3 +64,11 @@ edits = (codes "set", edit.Set) ∷ (codes "purge", edit.Purge) ∷ []
 
 abbrev pub elements : List (List ℕ × Element)
 elements = (codes "who", element.Who) ∷ (codes "what", element.What) ∷ (codes "when", element.When) ∷ (codes "where", element.Where) ∷ []
+
+abbrev pub plain : List ℕ → Bool
+plain [] = true
+plain (b ∷ bs) = nat_lt b 128 && plain bs
+
+abbrev pub all_plain : {A : Type 0} → List (List ℕ × A) → Bool
+all_plain [] = true
+all_plain (row ∷ rows) = plain row.0 && all_plain rows

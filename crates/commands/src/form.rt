@@ -1,158 +1,102 @@
-// The forms of the commands: each reads the words after the first, from the place `from` on.
-ghost use Rattle.std.specs.Prelude.{◌≡◌, ◌≤◌, length, IfOk};
-ghost use Rattle.commands.specs.Forms.{form, bound_by};
-ghost use Rattle.commands.specs.Spans.{In, Inside, on, part, cut_read};
+// The forms of the commands: each reads the words after the first.
+ghost use Rattle.std.specs.Prelude.{◌≡◌};
+ghost use Rattle.commands.specs.Ahead.{ahead};
+ghost use Rattle.commands.specs.Forms.{form, said_read};
 
+use crate::command::Command;
 use crate::fault::CommandFault;
 use crate::number::{count_of, delay_of, number_of};
-use crate::span::{Span, next_word, no_word, part_of, remainder};
-use crate::word::{Edit, Head, Turn, edit_of, turn_of};
+use crate::word::{Edit, Head, Turn, word_of};
+use crate::words::Words;
 
-// A command by the parts of its line.
-#[derive(Clone, Copy)]
-pub enum Spans {
-    Mint(u64),
-    HoldSet(Span),
-    HoldRelease(Span),
-    Queue(Span, u64),
-    Tick(u64),
-    BindSet(Span, Span, Span),
-    BindPurge(Span, Span),
-    Fetch(Span, Span),
-    Validate(Span),
+fn read_mint(mut words: Words<'_>) -> Result<Command<'_>, CommandFault>
+    ensures { said_read result ≡ form Head.Mint words.entry.line.now (ahead words.entry) }
+{
+    let word = words.next_word()?;
+    let count = count_of(word.text).ok_or(CommandFault::Line(word.at))?;
+    words.no_word()?;
+    Ok(Command::Mint(count))
 }
 
-fn read_mint(line: &[u8], from: usize) -> Result<Spans, CommandFault>
-    requires { length line.now ≤ 120 }
-    ensures value { cut_read line.now result ≡ form Head.Mint line.now (on line.now from) }
-    ensures within { IfOk result (λ x. Inside (length line.now) x) }
+fn read_hold(mut words: Words<'_>) -> Result<Command<'_>, CommandFault>
+    ensures { said_read result ≡ form Head.Hold words.entry.line.now (ahead words.entry) }
 {
-    let word = next_word(line, from)?;
-    let Some(count) = count_of(part_of(line, word)) else {
-        return Err(CommandFault::Line(word.from));
-    };
-    no_word(line, word.to + 1)?;
-    Ok(Spans::Mint(count))
-}
-
-fn read_hold(line: &[u8], from: usize) -> Result<Spans, CommandFault>
-    requires { length line.now ≤ 120 }
-    ensures value { cut_read line.now result ≡ form Head.Hold line.now (on line.now from) }
-    ensures within { IfOk result (λ x. Inside (length line.now) x) }
-{
-    let word = next_word(line, from)?;
-    let Some(turn) = turn_of(part_of(line, word)) else {
-        return Err(CommandFault::Line(word.from));
-    };
-    let name = next_word(line, word.to + 1)?;
-    no_word(line, name.to + 1)?;
+    let word = words.next_word()?;
+    let turn = word_of(word.text).ok_or(CommandFault::Line(word.at))?;
+    let name = words.next_word()?.text;
+    words.no_word()?;
     match turn {
-        Turn::Set => Ok(Spans::HoldSet(name)),
-        Turn::Release => Ok(Spans::HoldRelease(name)),
+        Turn::Set => Ok(Command::HoldSet(name)),
+        Turn::Release => Ok(Command::HoldRelease(name)),
     }
 }
 
-fn read_queue(line: &[u8], from: usize) -> Result<Spans, CommandFault>
-    requires { length line.now ≤ 120 }
-    ensures value { cut_read line.now result ≡ form Head.Queue line.now (on line.now from) }
-    ensures within { IfOk result (λ x. Inside (length line.now) x) }
+fn read_queue(mut words: Words<'_>) -> Result<Command<'_>, CommandFault>
+    ensures { said_read result ≡ form Head.Queue words.entry.line.now (ahead words.entry) }
 {
-    let word = next_word(line, from)?;
-    let Some(seconds) = delay_of(part_of(line, word)) else {
-        return Err(CommandFault::Line(word.from));
-    };
-    let name = next_word(line, word.to + 1)?;
-    no_word(line, name.to + 1)?;
-    Ok(Spans::Queue(name, seconds))
+    let word = words.next_word()?;
+    let seconds = delay_of(word.text).ok_or(CommandFault::Line(word.at))?;
+    let name = words.next_word()?.text;
+    words.no_word()?;
+    Ok(Command::Queue(name, seconds))
 }
 
-fn read_tick(line: &[u8], from: usize) -> Result<Spans, CommandFault>
-    requires { length line.now ≤ 120 }
-    ensures value { cut_read line.now result ≡ form Head.Tick line.now (on line.now from) }
-    ensures within { IfOk result (λ x. Inside (length line.now) x) }
+fn read_tick(mut words: Words<'_>) -> Result<Command<'_>, CommandFault>
+    ensures { said_read result ≡ form Head.Tick words.entry.line.now (ahead words.entry) }
 {
-    let word = next_word(line, from)?;
-    let Some(second) = number_of(part_of(line, word)) else {
-        return Err(CommandFault::Line(word.from));
-    };
-    no_word(line, word.to + 1)?;
-    Ok(Spans::Tick(second))
+    let word = words.next_word()?;
+    let second = number_of(word.text).ok_or(CommandFault::Line(word.at))?;
+    words.no_word()?;
+    Ok(Command::Tick(second))
 }
 
-// What `bind` takes after the element, which ends before `from`.
-fn read_edit(
-    line: &[u8],
-    from: usize,
-    edit: Edit,
-    name: Span,
-    element: Span,
-) -> Result<Spans, CommandFault>
-    requires line_len_bound { length line.now ≤ 120 }
-    requires fact { In (length line.now) name }
-    requires fact_2 { In (length line.now) element }
-    ensures value { cut_read line.now result ≡ bound_by edit line.now (on line.now from) (part line.now name) (part line.now element) }
-    ensures within { IfOk result (λ x. Inside (length line.now) x) }
+fn read_bind(mut words: Words<'_>) -> Result<Command<'_>, CommandFault>
+    ensures { said_read result ≡ form Head.Bind words.entry.line.now (ahead words.entry) }
 {
+    let word = words.next_word()?;
+    let edit = word_of(word.text).ok_or(CommandFault::Line(word.at))?;
+    let name = words.next_word()?.text;
+    let element = words.next_word()?.text;
     match edit {
         Edit::Set => {
-            let text = remainder(line, from)?;
-            Ok(Spans::BindSet(name, element, text))
+            let text = words.remainder()?;
+            Ok(Command::BindSet(name, element, word_of(element), text))
         }
         Edit::Purge => {
-            no_word(line, from)?;
-            Ok(Spans::BindPurge(name, element))
+            words.no_word()?;
+            Ok(Command::BindPurge(name, element, word_of(element)))
         }
     }
 }
 
-fn read_bind(line: &[u8], from: usize) -> Result<Spans, CommandFault>
-    requires { length line.now ≤ 120 }
-    ensures value { cut_read line.now result ≡ form Head.Bind line.now (on line.now from) }
-    ensures within { IfOk result (λ x. Inside (length line.now) x) }
+fn read_fetch(mut words: Words<'_>) -> Result<Command<'_>, CommandFault>
+    ensures { said_read result ≡ form Head.Fetch words.entry.line.now (ahead words.entry) }
 {
-    let word = next_word(line, from)?;
-    let Some(edit) = edit_of(part_of(line, word)) else {
-        return Err(CommandFault::Line(word.from));
-    };
-    let name = next_word(line, word.to + 1)?;
-    let element = next_word(line, name.to + 1)?;
-    read_edit(line, element.to + 1, edit, name, element)
+    let name = words.next_word()?.text;
+    let word = words.next_word()?.text;
+    words.no_word()?;
+    Ok(Command::Fetch(name, word, word_of(word)))
 }
 
-fn read_fetch(line: &[u8], from: usize) -> Result<Spans, CommandFault>
-    requires { length line.now ≤ 120 }
-    ensures value { cut_read line.now result ≡ form Head.Fetch line.now (on line.now from) }
-    ensures within { IfOk result (λ x. Inside (length line.now) x) }
+fn read_validate(mut words: Words<'_>) -> Result<Command<'_>, CommandFault>
+    ensures { said_read result ≡ form Head.Validate words.entry.line.now (ahead words.entry) }
 {
-    let name = next_word(line, from)?;
-    let element = next_word(line, name.to + 1)?;
-    no_word(line, element.to + 1)?;
-    Ok(Spans::Fetch(name, element))
-}
-
-fn read_validate(line: &[u8], from: usize) -> Result<Spans, CommandFault>
-    requires { length line.now ≤ 120 }
-    ensures value { cut_read line.now result ≡ form Head.Validate line.now (on line.now from) }
-    ensures within { IfOk result (λ x. Inside (length line.now) x) }
-{
-    let name = next_word(line, from)?;
-    no_word(line, name.to + 1)?;
-    Ok(Spans::Validate(name))
+    let name = words.next_word()?.text;
+    words.no_word()?;
+    Ok(Command::Validate(name))
 }
 
 // What a command takes after its first word.
-pub(crate) fn read_form(line: &[u8], from: usize, head: Head) -> Result<Spans, CommandFault>
-    requires { length line.now ≤ 120 }
-    ensures value { cut_read line.now result ≡ form head line.now (on line.now from) }
-    ensures within { IfOk result (λ x. Inside (length line.now) x) }
+pub(crate) fn read_form(words: Words<'_>, head: Head) -> Result<Command<'_>, CommandFault>
+    ensures { said_read result ≡ form head words.entry.line.now (ahead words.entry) }
 {
     match head {
-        Head::Mint => read_mint(line, from),
-        Head::Hold => read_hold(line, from),
-        Head::Queue => read_queue(line, from),
-        Head::Tick => read_tick(line, from),
-        Head::Bind => read_bind(line, from),
-        Head::Fetch => read_fetch(line, from),
-        Head::Validate => read_validate(line, from),
+        Head::Mint => read_mint(words),
+        Head::Hold => read_hold(words),
+        Head::Queue => read_queue(words),
+        Head::Tick => read_tick(words),
+        Head::Bind => read_bind(words),
+        Head::Fetch => read_fetch(words),
+        Head::Validate => read_validate(words),
     }
 }

@@ -7,5 +7,5 @@ mod form;
 mod number;
 pub mod opening;
 pub mod reading;
-mod span;
 mod word;
+mod words;

@@ -1,20 +1,22 @@
 // Number words.
-ghost use Rattle.std.specs.Prelude.{◌≡◌};
-ghost use Rattle.commands.specs.Numbers.{number, count, delay};
+ghost use Rattle.std.specs.Prelude.{◌≡◌, refl};
+ghost use Rattle.commands.specs.Numbers.{number, count, delay, delays};
+
+use crate::word::{Keyword, word_of};
 
 // The number that a word of 1 to 13 digits writes; only 0 itself begins with 0.
 pub(crate) fn number_of(word: &[u8]) -> Option<u64>
     ensures { result ≡ number word.now }
 {
-    if word.len() == 0 || word.len() > 13 || (word.len() > 1 && word[0] == b'0') {
+    if word.is_empty() || word.len() > 13 || (word.len() > 1 && word[0] == b'0') {
         return None;
     }
-    let mut n: u64 = 0;
-    for (i, b) in word.iter().enumerate() {
-        if *b < b'0' || *b > b'9' {
+    let mut n = 0;
+    for b in word {
+        if !b.is_ascii_digit() {
             return None;
         }
-        n = n * 10 + (*b - b'0') as u64;
+        n = n * 10 + u64::from(*b - b'0');
     }
     Some(n)
 }
@@ -23,9 +25,20 @@ pub(crate) fn number_of(word: &[u8]) -> Option<u64>
 pub(crate) fn count_of(word: &[u8]) -> Option<u64>
     ensures { result ≡ count word.now }
 {
-    match number_of(word) {
-        Some(n) if n >= 1 && n <= 100 => Some(n),
-        _ => None,
+    number_of(word).filter(|n| (1..=100).contains(n))
+}
+
+// The words that stand for a number of seconds.
+impl Keyword for u64 {
+    ghost table = { delays };
+
+    ghost plain = { refl };
+
+    fn named(text: &str) -> Option<Self> {
+        match text {
+            "now" => Some(0),
+            _ => None,
+        }
     }
 }
 
@@ -33,11 +46,5 @@ pub(crate) fn count_of(word: &[u8]) -> Option<u64>
 pub(crate) fn delay_of(word: &[u8]) -> Option<u64>
     ensures { result ≡ delay word.now }
 {
-    match std::str::from_utf8(word) {
-        Ok(text) => match text {
-            "now" => Some(0),
-            _ => number_of(word),
-        },
-        Err(_) => number_of(word),
-    }
+    word_of(word).or_else(|| number_of(word))
 }

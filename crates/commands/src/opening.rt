@@ -1,25 +1,22 @@
 // The opening line of a session.
 ghost use Rattle.std.specs.Prelude.{◌≡◌, ℕ, ◌≤◌, List, [], ◌∷◌, length, codes, IfOk, IfErr, Ok};
-ghost use Rattle.commands.specs.Forms.{opening, opens, template_read};
+ghost use Rattle.commands.specs.Ahead.{ahead};
+ghost use Rattle.commands.specs.Forms.{then_known, then_word, done, opens, template_read};
 ghost use Rattle.commands.specs.Refusals.{IsOpening, Refused};
-ghost use Rattle.commands.specs.Spans.{In, left};
 ghost use Rattle.commands.specs.Spelling.{Opened, Worded, with_spaces};
+ghost use Rattle.commands.specs.Words.{pick, openings};
 
 use crate::fault::CommandFault;
-use crate::span::{LONGEST, Span, next_word, no_word, part_of};
-use crate::word::opening_of;
+use crate::word::{Opening, word_of};
+use crate::words::Words;
 
-fn read_template(line: &[u8]) -> Result<Span, CommandFault>
-    requires { length line.now ≤ 120 }
-    ensures value { left line.now result ≡ opening line.now }
-    ensures within { IfOk result (λ x. In (length line.now) x) }
+fn read_template<'a>(mut words: Words<'a>) -> Result<&'a [u8], CommandFault>
+    ensures { template_read result ≡ then_known (pick openings) words.entry.line.now (ahead words.entry) (λ _ ws. then_word words.entry.line.now ws (λ template ws. done ws template.text)) }
 {
-    let word = next_word(line, 0)?;
-    let Some(_) = opening_of(part_of(line, word)) else {
-        return Err(CommandFault::Line(word.from));
-    };
-    let template = next_word(line, word.to + 1)?;
-    no_word(line, template.to + 1)?;
+    let word = words.next_word()?;
+    let Opening::Template = word_of(word.text).ok_or(CommandFault::Line(word.at))?;
+    let template = words.next_word()?.text;
+    words.no_word()?;
     Ok(template)
 }
 
@@ -31,9 +28,5 @@ pub fn read_opening<'a>(line: &'a [u8]) -> Result<&'a [u8], CommandFault>
     ensures reading { IfOk result (λ x. Opened line.now x.now) }
     ensures first { IfErr result (λ fault. Refused IsOpening line.now fault) }
 {
-    if line.len() > LONGEST {
-        return Err(CommandFault::Line(LONGEST));
-    }
-    let template = read_template(line)?;
-    Ok(part_of(line, template))
+    Words::of(line).and_then(read_template)
 }

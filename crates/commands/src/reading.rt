@@ -1,57 +1,23 @@
 // Lines of an open session read as commands.
 ghost use Rattle.std.specs.Prelude.{◌≡◌, ◌≤◌, length, IfOk, IfErr, Ok};
-ghost use Rattle.commands.specs.Forms.{Said, spoken, reads, said, said_read};
+ghost use Rattle.commands.specs.Ahead.{ahead};
+ghost use Rattle.commands.specs.Forms.{Said, form, then_known, reads, said, said_read};
 ghost use Rattle.commands.specs.Refusals.{IsCommand, Refused};
-ghost use Rattle.commands.specs.Spans.{Inside, cut, cut_read};
 ghost use Rattle.commands.specs.Spelling.{Spelt, Fair, Reading};
+ghost use Rattle.commands.specs.Words.{pick, heads};
 
 use crate::command::Command;
 use crate::fault::CommandFault;
-use crate::form::{Spans, read_form};
-use crate::span::{LONGEST, next_word, part_of};
-use crate::word::{element_of, head_of};
+use crate::form::read_form;
+use crate::word::word_of;
+use crate::words::Words;
 
-fn read_spans(line: &[u8]) -> Result<Spans, CommandFault>
-    requires { length line.now ≤ 120 }
-    ensures value { cut_read line.now result ≡ spoken line.now }
-    ensures within { IfOk result (λ x. Inside (length line.now) x) }
+fn read_words(mut words: Words<'_>) -> Result<Command<'_>, CommandFault>
+    ensures { said_read result ≡ then_known (pick heads) words.entry.line.now (ahead words.entry) (λ head ws. form head words.entry.line.now ws) }
 {
-    let word = next_word(line, 0)?;
-    let Some(head) = head_of(part_of(line, word)) else {
-        return Err(CommandFault::Line(word.from));
-    };
-    read_form(line, word.to + 1, head)
-}
-
-fn cut_out<'a>(line: &'a [u8], spans: Spans) -> Command<'a>
-    requires { Inside (length line.now) spans }
-    ensures { said result ≡ cut line.now spans }
-{
-    match spans {
-        Spans::Mint(count) => Command::Mint(count),
-        Spans::HoldSet(name) => Command::HoldSet(part_of(line, name)),
-        Spans::HoldRelease(name) => Command::HoldRelease(part_of(line, name)),
-        Spans::Queue(name, seconds) => Command::Queue(part_of(line, name), seconds),
-        Spans::Tick(second) => Command::Tick(second),
-        Spans::BindSet(name, element, text) => {
-            let word = part_of(line, element);
-            Command::BindSet(
-                part_of(line, name),
-                word,
-                element_of(word),
-                part_of(line, text),
-            )
-        }
-        Spans::BindPurge(name, element) => {
-            let word = part_of(line, element);
-            Command::BindPurge(part_of(line, name), word, element_of(word))
-        }
-        Spans::Fetch(name, element) => {
-            let word = part_of(line, element);
-            Command::Fetch(part_of(line, name), word, element_of(word))
-        }
-        Spans::Validate(name) => Command::Validate(part_of(line, name)),
-    }
+    let word = words.next_word()?;
+    let head = word_of(word.text).ok_or(CommandFault::Line(word.at))?;
+    read_form(words, head)
 }
 
 // The command that a line of an open session says: what is read is a fair command typed out, and each fair command that is typed out is read. Another line is refused at its first wrong word.
@@ -62,9 +28,5 @@ pub fn read_command<'a>(line: &'a [u8]) -> Result<Command<'a>, CommandFault>
     ensures reading { IfOk result (λ x. Reading line.now (said x)) }
     ensures first { IfErr result (λ fault. Refused IsCommand line.now fault) }
 {
-    if line.len() > LONGEST {
-        return Err(CommandFault::Line(LONGEST));
-    }
-    let spans = read_spans(line)?;
-    Ok(cut_out(line, spans))
+    Words::of(line).and_then(read_words)
 }

@@ -1,8 +1,27 @@
 // The words that commands begin with and have inside, and the element words.
-ghost use Rattle.std.specs.Prelude.{◌≡◌};
-ghost use Rattle.commands.specs.Words.{pick, heads, openings, turns, edits, elements};
+ghost use Rattle.std.specs.Prelude.{◌≡◌, ℕ, true, List, refl};
+ghost use Rattle.commands.specs.Words.{pick, heads, openings, turns, edits, elements, all_plain};
 
 use stores::text::Element;
+
+// A kind of word, by the table of its words.
+pub(crate) trait Keyword: Sized {
+    ghost table: { List (List ℕ × Self) };
+
+    fn named(text: &str) -> Option<Self>
+        ensures { result ≡ pick table text.now };
+
+    // so that bytes that are no text are none of the words
+    ghost plain: { all_plain table ≡ true };
+}
+
+// What a word stands for.
+#[tactic(auto, using(crate::proofs::Tables::garbled))]
+pub(crate) fn word_of<K: Keyword>(word: &[u8]) -> Option<K>
+    ensures { result ≡ pick K.table word.now }
+{
+    K::named(std::str::from_utf8(word).ok()?)
+}
 
 // The first word of a command.
 #[derive(Clone, Copy)]
@@ -16,10 +35,42 @@ pub enum Head {
     Validate,
 }
 
+impl Keyword for Head {
+    ghost table = { heads };
+
+    ghost plain = { refl };
+
+    fn named(text: &str) -> Option<Self> {
+        match text {
+            "mint" => Some(Head::Mint),
+            "hold" => Some(Head::Hold),
+            "queue" => Some(Head::Queue),
+            "tick" => Some(Head::Tick),
+            "bind" => Some(Head::Bind),
+            "fetch" => Some(Head::Fetch),
+            "validate" => Some(Head::Validate),
+            _ => None,
+        }
+    }
+}
+
 // The first word of an opening line.
 #[derive(Clone, Copy)]
 pub enum Opening {
     Template,
+}
+
+impl Keyword for Opening {
+    ghost table = { openings };
+
+    ghost plain = { refl };
+
+    fn named(text: &str) -> Option<Self> {
+        match text {
+            "template" => Some(Opening::Template),
+            _ => None,
+        }
+    }
 }
 
 // The second word of `hold`.
@@ -29,6 +80,20 @@ pub enum Turn {
     Release,
 }
 
+impl Keyword for Turn {
+    ghost table = { turns };
+
+    ghost plain = { refl };
+
+    fn named(text: &str) -> Option<Self> {
+        match text {
+            "set" => Some(Turn::Set),
+            "release" => Some(Turn::Release),
+            _ => None,
+        }
+    }
+}
+
 // The second word of `bind`.
 #[derive(Clone, Copy)]
 pub enum Edit {
@@ -36,73 +101,32 @@ pub enum Edit {
     Purge,
 }
 
-pub(crate) fn head_of(word: &[u8]) -> Option<Head>
-    ensures { result ≡ pick heads word.now }
-{
-    match std::str::from_utf8(word) {
-        Ok(text) => match text {
-            "mint" => Some(Head::Mint),
-            "hold" => Some(Head::Hold),
-            "queue" => Some(Head::Queue),
-            "tick" => Some(Head::Tick),
-            "bind" => Some(Head::Bind),
-            "fetch" => Some(Head::Fetch),
-            "validate" => Some(Head::Validate),
-            _ => None,
-        },
-        Err(_) => None,
-    }
-}
+impl Keyword for Edit {
+    ghost table = { edits };
 
-pub(crate) fn opening_of(word: &[u8]) -> Option<Opening>
-    ensures { result ≡ pick openings word.now }
-{
-    match std::str::from_utf8(word) {
-        Ok(text) => match text {
-            "template" => Some(Opening::Template),
-            _ => None,
-        },
-        Err(_) => None,
-    }
-}
+    ghost plain = { refl };
 
-pub(crate) fn turn_of(word: &[u8]) -> Option<Turn>
-    ensures { result ≡ pick turns word.now }
-{
-    match std::str::from_utf8(word) {
-        Ok(text) => match text {
-            "set" => Some(Turn::Set),
-            "release" => Some(Turn::Release),
-            _ => None,
-        },
-        Err(_) => None,
-    }
-}
-
-pub(crate) fn edit_of(word: &[u8]) -> Option<Edit>
-    ensures { result ≡ pick edits word.now }
-{
-    match std::str::from_utf8(word) {
-        Ok(text) => match text {
+    fn named(text: &str) -> Option<Self> {
+        match text {
             "set" => Some(Edit::Set),
             "purge" => Some(Edit::Purge),
             _ => None,
-        },
-        Err(_) => None,
+        }
     }
 }
 
-pub(crate) fn element_of(word: &[u8]) -> Option<Element>
-    ensures { result ≡ pick elements word.now }
-{
-    match std::str::from_utf8(word) {
-        Ok(text) => match text {
+impl Keyword for Element {
+    ghost table = { elements };
+
+    ghost plain = { refl };
+
+    fn named(text: &str) -> Option<Self> {
+        match text {
             "who" => Some(Element::Who),
             "what" => Some(Element::What),
             "when" => Some(Element::When),
             "where" => Some(Element::Where),
             _ => None,
-        },
-        Err(_) => None,
+        }
     }
 }

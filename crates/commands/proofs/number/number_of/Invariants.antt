@@ -2,5 +2,5 @@ use Rattle.std.proofs.Common.{◌≡◌, ◌^◌, ◌<◌, ◌≤◌, length, dr
 use Rattle.commands.specs.Numbers.{digits_on, number}
 use Rattle.commands.proofs.number.number_of.Given as goal
 
-abbrev pub invariant-loop-i : goal.invariant-loop-i
-invariant-loop-i l = (digits_on l.n (drop l.i l.word) ≡ number l.word) × (l.n < 10 ^ l.i) × (length l.word ≤ 13)
+abbrev pub invariant-loop-b : goal.invariant-loop-b
+invariant-loop-b l = record { read : digits_on l.n (drop l.b-index l.word) ≡ number l.word; small : l.n < 10 ^ l.b-index; short : length l.word ≤ 13 }
