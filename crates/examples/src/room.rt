@@ -16,54 +16,52 @@ use stores::tally::TallyKey;
 use stores::text::TextKey;
 use texts::output::Output;
 
-const OPENING: &[u8] = b"template 99999/q7.sdk";
-
-// Ends a session that finds room for it, and lets it go.
+// Ends a session, which finds room for it, and lets it go.
 fn finish<U: Store<TallyKey, u64>>(session: OpenSession, tallies: &U)
     requires { U.Store.sound tallies.now }
 {
     let mut wide = [0u8; 4096];
-    let ended = session
-        .end(tallies, &mut Output::over(&mut wide))
-        .unwrap();
-    ended.close();
+    match session.end(tallies, &mut Output::over(&mut wide)) {
+        Ok(session) => {
+            session.close();
+        }
+        Err(_) => unreachable(),
+    }
+}
+
+// An open session that has counted so many lines and one, or why its opening line is refused.
+fn open_after<U: Store<TallyKey, u64>>(
+    lines: u64,
+    tallies: &mut U,
+    out: &mut [u8],
+) -> Result<OpenSession, Refusal>
+    ensures { U.Store.sound tallies.old → U.Store.sound tallies.new }
+{
+    let session = NewSession { lines };
+    match session.opening(tallies, b"template 99999/q7.sdk", &mut Output::over(out)) {
+        Ok(
+            Entered {
+                session,
+                template: _,
+            },
+        ) => Ok(session),
+        Err(TurnedAway { session, fault }) => {
+            session.leave();
+            Err(fault.into())
+        }
+    }
 }
 
 // Why an opening line is refused, if it is.
 fn opening_refusal(lines: u64, out: &mut [u8]) -> Option<Refusal> {
     let mut entries = [NO_TALLY; 2];
     let mut tallies = Log::over(&mut entries);
-    let session = NewSession { lines };
-    match session.opening(&mut tallies, OPENING, &mut Output::over(out)) {
-        Ok(Entered {
-            session,
-            template: _,
-        }) => {
+    match open_after(lines, &mut tallies, out) {
+        Ok(session) => {
             finish(session, &tallies);
             None
         }
-        Err(TurnedAway { session, fault }) => {
-            session.leave();
-            Some(fault.into())
-        }
-    }
-}
-
-// An open session that has counted so many lines and one.
-fn open_after<U: Store<TallyKey, u64>>(lines: u64, tallies: &mut U) -> Option<OpenSession>
-    ensures { U.Store.sound tallies.old → U.Store.sound tallies.new }
-{
-    let mut wide = [0u8; 4096];
-    let session = NewSession { lines };
-    match session.opening(tallies, OPENING, &mut Output::over(&mut wide)) {
-        Ok(Entered {
-            session,
-            template: _,
-        }) => Some(session),
-        Err(TurnedAway { session, fault: _ }) => {
-            session.leave();
-            None
-        }
+        Err(refusal) => Some(refusal),
     }
 }
 
@@ -75,13 +73,10 @@ fn line_refusal<S: Source, T: Store<TextKey, Text>>(
 ) -> Option<Refusal> {
     let mut entries = [NO_TALLY; 2];
     let mut tallies = Log::over(&mut entries);
-    let session = open_after(lines, &mut tallies)?;
-    let Reply { session, fault } = session.line(
-        register,
-        &mut tallies,
-        b"mint 1",
-        &mut Output::over(out),
-    );
+    let mut wide = [0u8; 4096];
+    let session = open_after(lines, &mut tallies, &mut wide).ok()?;
+    let mut out = Output::over(out);
+    let Reply { session, fault } = session.line(register, &mut tallies, b"mint 1", &mut out);
     finish(session, &tallies);
     fault.map(Refusal::from)
 }
@@ -90,10 +85,11 @@ fn line_refusal<S: Source, T: Store<TextKey, Text>>(
 fn end_refusal(out: &mut [u8]) -> Option<Refusal> {
     let mut entries = [NO_TALLY; 2];
     let mut tallies = Log::over(&mut entries);
-    let session = open_after(0, &mut tallies)?;
+    let mut wide = [0u8; 4096];
+    let session = open_after(0, &mut tallies, &mut wide).ok()?;
     match session.end(&tallies, &mut Output::over(out)) {
-        Ok(ended) => {
-            ended.close();
+        Ok(session) => {
+            session.close();
             None
         }
         Err(StillOpen { session, fault }) => {

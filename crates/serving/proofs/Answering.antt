@@ -1,5 +1,5 @@
 -- An open session that was given some of its lines. Assumes nothing.
-use Rattle.std.proofs.Common.{◌≡◌, ℕ, ◌+◌, ◌-◌, ◌*◌, ◌≤◌, false, cond, ltb, leb, List, [], ◌∷◌, ◌++◌, length, take, drop, sym, refl, ap, ◌∙◌, append_assoc, arith}
+use Rattle.std.proofs.Common.{◌≡◌, ℕ, ◌+◌, ◌-◌, ◌*◌, ◌≤◌, false, cond, ltb, leb, List, ◌∷◌, ◌++◌, length, take, drop, sym, ap, ◌∙◌, append_assoc, arith}
 use Rattle.commands.specs.Forms.{reads}
 use Rattle.commands.specs.declared.fault.CommandFault.TheVariants.{Lines, Output}
 use Rattle.machine.specs.Runs.{Sound}
@@ -7,7 +7,7 @@ use Rattle.sessions.specs.Frames.{Desk, Answered, heard, counted, unheard, answe
 use Rattle.sessions.specs.declared.line.Reply.{Reply}
 use Rattle.std.proofs.lemmas.List.{length-append, length-drop, length-take-le, take_all}
 use Rattle.std.proofs.lemmas.Bool.Decides.{nat_tests}
-use Rattle.texts.proofs.Fill.{puts_none, puts_join}
+use Rattle.texts.proofs.Fill.{puts_join}
 use Rattle.texts.specs.Output.{Puts}
 use Rattle.texts.specs.declared.output.Output as output
 use Rattle.serving.specs.Serving.{lines_text, lines_desk}
@@ -22,10 +22,6 @@ pub record Answering (store tallies : Type 0) (d e : Desk) (lines left : List (L
   pub text : so_far ++ lines_text e left ≡ lines_text d lines
   pub desk : lines_desk e left ≡ lines_desk d lines
   pub room : now.fill + 4096 * (length left + 1) ≤ length now.bytes.now
-
-pub begins : {store tallies : Type 0} {d : Desk} {lines : List (List ℕ)} {old : output.Output} → Sound d.machine → store → tallies → old.fill + 4096 * (length lines + 1) ≤ length old.bytes.now
-    → Answering store tallies d d lines lines old old
-begins {store} {tallies} {d} {lines} {old} s k u r = record { sound = s; stored = k; tallied = u; so_far = []; wrote = puts_none old; text = refl; desk = refl; room = r }
 
 -- with 4,096 bytes free or more, a line is answered as with 4,096
 pub free_enough : (free : ℕ) (d : Desk) (l : List ℕ) → 4096 ≤ free → answered free d l ≡ answered 4096 d l

@@ -29,10 +29,12 @@ pub(crate) fn find_opening<'a, U: Store<TallyKey, u64>>(
     while let Some(line) = lines.next() {
         match session.opening(tallies, line, out) {
             Ok(entered) => return Ok((entered, lines)),
-            Err(TurnedAway {
-                session: same,
-                fault: _,
-            }) => session = same,
+            Err(
+                TurnedAway {
+                    session: same,
+                    fault: _,
+                },
+            ) => session = same,
         }
     }
     Err(session)

@@ -53,8 +53,7 @@ fn serve_open<T: Store<TextKey, Text> + Drop, U: Store<TallyKey, u64>>(
     let source = Generator::new(ByLetter::of(&template), template);
     let mut register = Register::open(room, source, texts);
     let session = answer_lines(session, &mut register, tallies, lines, out);
-    let ended = session.end(tallies, out).unwrap();
-    ended.close();
+    session.end(tallies, out).unwrap().close();
 }
 
 // A session over a store for texts and one for tallies, both with no pair.
@@ -82,13 +81,16 @@ fn serve_session<T: Store<TextKey, Text> + Drop, U: Store<TallyKey, u64>>(
     }
 }
 
-// The lines of an input that is not too long, in an output that has room for them.
-fn serve_lines(memory: Memory, input: &[u8], out: &mut Output<'_>)
-    requires room { out.old.fill + 4096 * (length (pieces 10 input.now) + 1) ≤ length out.old.bytes.now }
-    ensures text { Puts out.old (session_text unread (pieces 10 input.now)) out.new }
+// A whole input, into an output that has room for its reports.
+fn serve_input(memory: Memory, input: &[u8], out: &mut Output<'_>)
+    requires room { out.old.fill + needed input.now ≤ length out.old.bytes.now }
+    ensures text { Puts out.old (report input.now) out.new }
     ensures whole { out.new.fill < length out.new.bytes.now }
-    ensures ruled { RuledInput input.now }
+    ensures ruled { length input.now ≤ 32768 → RuledInput input.now }
 {
+    if input.len() > LONGEST {
+        return write_fault(0, CommandFault::Input, out);
+    }
     let Memory {
         room,
         mut nodes,
@@ -124,11 +126,7 @@ pub fn serve_in(memory: Memory, input: &[u8], out: &mut [u8]) -> Result<usize, C
     if out.free() < bytes_needed(input) {
         return Err(CommandFault::Output);
     }
-    if input.len() > LONGEST {
-        write_fault(0, CommandFault::Input, &mut out);
-    } else {
-        serve_lines(memory, input, &mut out);
-    }
+    serve_input(memory, input, &mut out);
     Ok(out.fill)
 }
 

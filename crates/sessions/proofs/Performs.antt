@@ -1,17 +1,16 @@
 -- What a call, and a list of mints, did. Assumes nothing.
-use Rattle.std.proofs.Common.{◌≡◌, ℕ, suc, ◌+◌, ◌-◌, ◌<◌, ◌≤◌, true, false, cond, List, [], ◌∷◌, ◌++◌, is_some, is_ok, Some, None, Ok, Err, Option, Result, sym, refl, ap, ◌∙◌, subst, ap₂, append_assoc, append-nil, add-zero, add_assoc, zero-add, arith}
+use Rattle.std.proofs.Common.{◌≡◌, ℕ, suc, ◌+◌, ◌-◌, ◌<◌, true, false, cond, List, [], ◌∷◌, ◌++◌, is_some, is_ok, Some, None, Ok, Err, Option, Result, sym, refl, ap, ◌∙◌, subst, ap₂, append_assoc, append-nil, add-zero, add_assoc, arith}
 use Rattle.machine.proofs.Runs.{same_naming}
 use Rattle.machine.specs.Calls.{Asked, Mint}
-use Rattle.machine.specs.History.{accepted}
 use Rattle.machine.specs.Machine.{Machine, mint, said, step, final, answers}
 use Rattle.machine.specs.Names.{Name}
 use Rattle.machine.specs.Runs.{Sound}
 use Rattle.machine.specs.declared.call.Answer.{Answer}
-use Rattle.machine.specs.declared.call.Answer.TheVariants.{Minted, Held, Released, Queued, Ticked, Bound, Purged, Refused}
+use Rattle.machine.specs.declared.call.Answer.TheVariants.{Minted}
 use Rattle.machine.specs.declared.fault.RegisterFault.{RegisterFault}
 use Rattle.sessions.specs.Performing.{mints, told_of, tells, minted_by, names_minted, fault_of, or_else, first_fault, Performed, by_calls, Did}
 use Rattle.reports.specs.Reports.{line, minted}
-use Rattle.texts.proofs.Fill.{puts_none, puts_join}
+use Rattle.texts.proofs.Fill.{puts_join}
 use Rattle.sessions.specs.declared.perform.Done.{Done}
 use Rattle.texts.specs.Output.{Puts}
 use Rattle.texts.specs.declared.output.Output.{Output}
@@ -19,17 +18,6 @@ use Rattle.texts.specs.declared.output.Output.{Output}
 or_none : (o : Option RegisterFault) → or_else o None ≡ o
 or_none (Some f) = refl
 or_none None = refl
-
--- an answer that has a fault was no acceptance
-pub not_accepted : (a : Answer) → is_some (fault_of a) ≡ true → accepted a ≡ false
-not_accepted (Minted n) e = sym e
-not_accepted (Held n) e = sym e
-not_accepted (Released n) e = sym e
-not_accepted (Queued n) e = sym e
-not_accepted (Ticked s) e = sym e
-not_accepted (Bound n) e = sym e
-not_accepted (Purged n) e = sym e
-not_accepted (Refused f) e = refl
 
 -- one call, reported under the names that the register has after it
 pub one_call : {m after : Machine} (word : List ℕ) (c : Asked) {a : Answer} {old new : Output} {done : Done}
@@ -81,22 +69,6 @@ pub record Minting (kept : Type 0) (m n : Machine) (count i : ℕ) (old now : Ou
   pub so_far : List ℕ
   pub wrote : Puts old so_far now
   pub whole : led so_far i (by_named m.source.named n [] (mints (count - i) n)) ≡ by_calls m [] (mints count m)
-
-pub begins : {kept : Type 0} {m : Machine} {count : ℕ} {old : Output} → Sound m → kept → Minting kept m m count 0 old old
-begins {kept} {m} {count} {old} s k = record {
-  sound = s;
-  store = k;
-  named = refl;
-  so_far = [];
-  wrote = puts_none old;
-  whole = let all : count - 0 ≡ count = omega arith in
-      (λ j. record {
-        machine = final m (mints (all j) m);
-        text = tells m.source.named [] (answers m (mints (all j) m));
-        minted = zero-add (names_minted (answers m (mints (all j) m))) j;
-        fault = first_fault (answers m (mints (all j) m));
-      });
-}
 
 -- a mint that has no fault has a number, one that has a fault has that one
 has_number : (r : Result ℕ RegisterFault) → is_some (or_else (fault_of (said (λ n. Minted n) r)) None) ≡ false → (n : ℕ) × (r ≡ Ok n)
@@ -151,16 +123,3 @@ module _ {kept : Type 0} {m n n' : Machine} {count i : ℕ} {old was now : Outpu
         minted = many ∙ sym (add-zero i) ∙ ap (λ (k : ℕ). i + k) (sym none-minted) ∙ ap (λ (p : Performed). p.minted) all;
         fault = why ∙ did.fault ∙ ap (λ (p : Performed). p.fault) all;
       }
-
-pub ends : {kept : Type 0} {m n : Machine} {count i : ℕ} {old new : Output} {done : Done} → count ≤ i
-    → Minting kept m n count i old new → done.minted ≡ i → done.fault ≡ None → Did (by_calls m [] (mints count m)) n old new done
-ends {kept} {m} {n} {count} {i} {old} {new} {done} h going many why =
-    let f = m.source.named in
-    let left : count - i ≡ 0 = omega arith in
-    let all : led going.so_far i (by_named f n [] []) ≡ by_calls m [] (mints count m) = ap (λ (k : ℕ). led going.so_far i (by_named f n [] (mints k n))) (sym left) ∙ going.whole in
-    record {
-      machine = ap (λ (p : Performed). p.machine) all;
-      text = subst (λ (t : List ℕ). Puts old t new) (sym (append-nil going.so_far) ∙ ap (λ (p : Performed). p.text) all) going.wrote;
-      minted = many ∙ sym (add-zero i) ∙ ap (λ (p : Performed). p.minted) all;
-      fault = why ∙ ap (λ (p : Performed). p.fault) all;
-    }

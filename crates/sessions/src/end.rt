@@ -1,5 +1,5 @@
 // The end of a session.
-ghost use Rattle.std.specs.Prelude.{◌≡◌, ◌-◌, ◌*◌, ◌<◌, ◌≤◌, true, length, is_ok};
+ghost use Rattle.std.specs.Prelude.{◌≡◌, ◌-◌, ◌<◌, ◌≤◌, true, length, is_ok};
 ghost use Rattle.reports.specs.Reports.{line, tally};
 ghost use Rattle.texts.specs.Output.{Puts};
 ghost use Rattle.sessions.specs.Ends.{tally_line, tally_lines, closing, Closes};
@@ -22,7 +22,7 @@ pub struct StillOpen {
     pub fault: CommandFault,
 }
 
-// The report line of a refusal number that was met.
+// The report line of a refusal number that was met; a function of its own, since the proof knows of an argument that it fits 64 bits.
 fn write_count(number: u8, count: u64, out: &mut Output<'_>)
     ensures text { Puts out.old (line (tally number count)) out.new }
     ensures brief { length (line (tally number count)) ≤ 48 }
@@ -41,12 +41,12 @@ fn write_tally<U: Store<TallyKey, u64>>(tallies: &U, number: u8, out: &mut Outpu
     }
 }
 
-// The report lines of the refusal numbers from one to below another, rising.
-fn write_tallies<U: Store<TallyKey, u64>>(tallies: &U, from: u8, to: u8, out: &mut Output<'_>)
-    ensures text { U.Store.sound tallies.now → Puts out.old (tally_lines (tallies_in (U.Store.pairs tallies.now) (U.Store.capacity tallies.now)) (to - from) from) out.new }
-    ensures brief { U.Store.sound tallies.now → length (tally_lines (tallies_in (U.Store.pairs tallies.now) (U.Store.capacity tallies.now)) (to - from) from) ≤ 48 * (to - from) }
+// The report lines of all refusal numbers that were met, rising.
+fn write_tallies<U: Store<TallyKey, u64>>(tallies: &U, out: &mut Output<'_>)
+    ensures text { U.Store.sound tallies.now → Puts out.old (tally_lines (tallies_in (U.Store.pairs tallies.now) (U.Store.capacity tallies.now)) 30 1) out.new }
+    ensures brief { U.Store.sound tallies.now → length (tally_lines (tallies_in (U.Store.pairs tallies.now) (U.Store.capacity tallies.now)) 30 1) ≤ 1440 }
 {
-    for number in from..to {
+    for number in 1..PAST_THE_LAST {
         write_tally(tallies, number, out);
     }
 }
@@ -68,7 +68,7 @@ impl OpenSession {
             });
         }
         let OpenSession { lines, minted } = self;
-        write_tallies(tallies, 1, PAST_THE_LAST, out);
+        write_tallies(tallies, out);
         write_report(out, Report::Total(minted));
         Ok(EndedSession { lines, minted })
     }

@@ -30,7 +30,7 @@ const LINES: u64 = 65_535;
 
 pub const FREE: usize = 4096;
 
-// The session after a line, and why it was refused, if it was.
+// The session after a line, and why it was refused, if it was; no Result, since the session goes on in both cases.
 pub struct Reply {
     pub session: OpenSession,
     pub fault: Option<CommandFault>,
@@ -118,6 +118,7 @@ fn hear<S: Source, T: Store<TextKey, Text>, U: Store<TallyKey, u64>>(
 }
 
 impl OpenSession {
+    // Register and tallies are two parameters: a struct of the two loans would want clauses, in each contract, that both loans stay the same.
     // Counts a line that was read, or was not, and answers it. Line 65,536, and a line that finds too few bytes free, are not even counted.
     pub fn frame<S: Source, T: Store<TextKey, Text>, U: Store<TallyKey, u64>>(
         self,

@@ -20,7 +20,7 @@ use stores::store::Store;
 use stores::text::{Element, TextKey};
 use texts::output::Output;
 
-// What a command did: how many names it minted, and why it was refused, if it was.
+// What a command did: how many names it minted, and why it was refused, if it was; no Result, since a mint that is refused has minted the names before it.
 #[derive(Clone, Copy)]
 pub struct Done {
     pub minted: u64,

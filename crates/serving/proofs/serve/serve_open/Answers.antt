@@ -38,8 +38,8 @@ returns g c =
     let heard = c.answer_lines-session.ensures in
     let now = c.answer_lines-session.new.out in
     let tallied = tallies_in (g.U.Store.pairs c.answer_lines-session.new.tallies) (g.U.Store.capacity c.answer_lines-session.new.tallies) in
-    let closed = subst (λ (r : Result EndedSession StillOpen). Closes (length now.bytes.now - now.fill) tallied c.answer_lines-session.result now c.end.new.out r) c.unwrap-ended.ensures (c.end.ensures.closes heard.tallies) in
-    let few = c.end.ensures.brief heard.tallies (ap is_ok c.unwrap-ended.ensures) in
+    let closed = subst (λ (r : Result EndedSession StillOpen). Closes (length now.bytes.now - now.fill) tallied c.answer_lines-session.result now c.end.new.out r) c.unwrap.ensures (c.end.ensures.closes heard.tallies) in
+    let few = c.end.ensures.brief heard.tallies (ap is_ok c.unwrap.ensures) in
     let told : lines_text begun ls ++ closing (lines_desk begun ls).tallies (lines_desk begun ls).minted ≡ open_text (open_desk d f) ls = ap (λ (x : Desk). open_text x ls) same in
     record {
       text = subst (λ (t : List ℕ). Puts c.args.out.now t c.end.new.out) (ap (λ (x : Desk). lines_text begun ls ++ closing x.tallies x.minted) heard.desk ∙ told) (puts_join heard.text closed.2);

@@ -3,4 +3,4 @@ use Rattle.sessions.specs.Tallies.{tallies_in}
 use Rattle.sessions.proofs.end.write_tallies.Given as goal
 
 abbrev pub invariant-loop-number : goal.invariant-loop-number
-invariant-loop-number g l = g.U.Store.sound l.tallies → Tallying (tallies_in (g.U.Store.pairs l.tallies) (g.U.Store.capacity l.tallies)) l.from l.to l.number l.initial.out l.out
+invariant-loop-number g l = g.U.Store.sound l.tallies → Tallying (tallies_in (g.U.Store.pairs l.tallies) (g.U.Store.capacity l.tallies)) l.number l.initial.out l.out
