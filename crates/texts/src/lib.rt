@@ -1,4 +1,4 @@
-// Texts: cut at a byte, lines at the line end and words at the space; and put into a lent buffer.
+// Texts: cut at a byte, lines at the line end and words at the space; put into a lent buffer; kept in place where they are short.
 #![tactic(auto)]
 
 ghost use Rattle.std.specs.Prelude.{◌≡◌, ◌+◌, ◌-◌, ◌<◌, ◌≤◌, List, ◌∷◌, length, take, drop};
@@ -6,6 +6,7 @@ ghost use Rattle.texts.specs.Pieces.{pieces, upto};
 
 pub mod output;
 pub mod pieces;
+pub mod short;
 
 // Where the piece that begins at `from` ends: at the next `mark`, or with the text. From past the text's end on that is `from` itself.
 pub fn piece_end(text: &[u8], from: usize, mark: u8) -> usize
