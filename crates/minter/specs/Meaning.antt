@@ -1,12 +1,12 @@
 -- What a register means: texts_in, the texts of a store's pairs; opened, the machine over a source and a store before the
--- first call; over, a machine with other lists; meaning, the machine that a register stands for; due_by, lacks_room, text_put and text_dropped, of parts of its calls.
-use Rattle.std.specs.Prelude.{ℕ, pred, Bool, cond, not, ◌&&◌, List, [], ◌++◌, length, Some, None, vec_items, Option, nat_le}
+-- first call; over, a machine with other lists; meaning, the machine that a register stands for; lacks_room, text_put and text_dropped, of parts of its calls.
+use Rattle.std.specs.Prelude.{ℕ, pred, Bool, cond, not, ◌&&◌, List, [], length, Some, None, vec_items, Option, nat_le}
 use Rattle.sources.specs.Stock.{Stock}
 use Rattle.stores.specs.Pairs.{look, more}
 use Rattle.stores.specs.Texts.{same_key}
 use Rattle.stores.specs.declared.text.Element.{Element}
 use Rattle.stores.specs.declared.text.TextKey.{TextKey}
-use Rattle.machine.specs.Machine.{Machine, text_under, bound_in, with_queue, numbers, by, later_than, in_order}
+use Rattle.machine.specs.Machine.{Machine, text_under, bound_in}
 use Rattle.machine.specs.Texts.{bytes_of}
 use Rattle.minter.specs.declared.lists.Lists.{Lists}
 use Rattle.minter.specs.declared.register.Register.{Register}
@@ -47,10 +47,6 @@ meaning stock pairs capacity r = record {
   many = length (pairs r.texts);
   capacity = capacity r.texts;
 }
-
--- after what is due by a second was taken back
-abbrev pub due_by : ℕ → Machine → Machine
-due_by t m = with_queue m (m.returned ++ numbers (in_order (by t m.delayed))) (later_than t m.delayed) m.clock
 
 -- the store is full, and has no text under n and f
 abbrev pub lacks_room : Machine → ℕ → Element → Bool

@@ -15,6 +15,7 @@ use stores::store::Store;
 use stores::text::TextKey;
 
 // Makes a register over a source and a store, and serves the calls in their order.
+// It does not call `run_in`, which writes over answers that are there: the list would have to be filled twice.
 pub fn run<S: Source + Drop, T: Store<TextKey, Text> + Drop>(
     heap: Global,
     source: S,

@@ -1,8 +1,7 @@
 // The numbers on hold, and their places.
 ghost use Rattle.std.specs.Prelude.{◌≡◌, ◌+◌, false, not, ◌&&◌, length, nat_le};
 ghost use Rattle.sources.specs.Lists.{has};
-ghost use Rattle.machine.specs.Machine.{Machine, added, with_held, without, outside};
-ghost use Rattle.minter.specs.Meaning.{over};
+ghost use Rattle.machine.specs.Machine.{added, without, outside};
 
 use super::Lists;
 use super::numbers::{add, outside, remove};
@@ -28,14 +27,16 @@ impl Lists {
     pub(crate) fn put_on_hold(&mut self, n: u64)
         requires new { has n self.old.held.items ≡ false }
         requires place { (not (has n self.old.aside.items) && nat_le 64 (length self.old.aside.items + outside self.old.aside.items self.old.held.items)) ≡ false }
-        ensures { (m : Machine) → over m self.new ≡ with_held (over m self.old) (added n self.old.held.items) }
+        ensures held { self.new.held.items ≡ added n self.old.held.items }
+        ensures others { (self.new.aside ≡ self.old.aside) × (self.new.returned ≡ self.old.returned) × (self.new.delayed ≡ self.old.delayed) }
     {
         add(&mut self.held, n);
     }
 
     // Takes n out of the held.
     pub(crate) fn take_off_hold(&mut self, n: u64)
-        ensures { (m : Machine) → over m self.new ≡ with_held (over m self.old) (without n self.old.held.items) }
+        ensures held { self.new.held.items ≡ without n self.old.held.items }
+        ensures others { (self.new.aside ≡ self.old.aside) × (self.new.returned ≡ self.old.returned) × (self.new.delayed ≡ self.old.delayed) }
     {
         remove(&mut self.held, n);
     }

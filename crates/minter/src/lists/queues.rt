@@ -1,8 +1,7 @@
 // Names taken back.
-ghost use Rattle.std.specs.Prelude.{◌≡◌, ◌||◌};
+ghost use Rattle.std.specs.Prelude.{◌≡◌, ◌||◌, ◌++◌};
 ghost use Rattle.sources.specs.Lists.{has};
-ghost use Rattle.machine.specs.Machine.{Machine, numbers};
-ghost use Rattle.minter.specs.Meaning.{over, due_by};
+ghost use Rattle.machine.specs.Machine.{numbers, by, later_than, in_order};
 
 use super::Lists;
 use super::dues::{queued, take_soonest};
@@ -18,7 +17,9 @@ impl Lists {
 
     // Moves what is due by a second to the end of returned, the soonest first.
     pub(crate) fn return_due(&mut self, until: u64)
-        ensures { (m : Machine) → over m self.new ≡ due_by until (over m self.old) }
+        ensures returned { self.new.returned.items ≡ self.old.returned.items ++ numbers (in_order (by until self.old.delayed.items)) }
+        ensures delayed { self.new.delayed.items ≡ later_than until self.old.delayed.items }
+        ensures others { (self.new.aside ≡ self.old.aside) × (self.new.held ≡ self.old.held) }
     {
         while let Some(n) = take_soonest(&mut self.delayed, until) {
             self.returned.push_reserved(n);

@@ -94,7 +94,7 @@ impl<S: Source, T: Store<TextKey, Text>> Register<S, T> {
         }
     }
 
-    // Copies the text under a name and an element to the caller's place.
+    // Copies the text under a name and an element to the caller's place, as the project's rules have it: no text is handed out by value.
     pub fn fetch(
         &self,
         name: &[u8],

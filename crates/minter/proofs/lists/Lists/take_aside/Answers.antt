@@ -1,5 +1,6 @@
 -- The first number that is not held, out of aside. Assumes nothing.
-use Rattle.std.proofs.Common.{◌≡◌, ℕ, ◌+◌, ◌≤◌, Bool, not, List, None, length, position, vec_items, sym, ap, ◌∙◌, subst, ap₂, rules}
+use Rattle.std.proofs.Common.{◌≡◌, ℕ, ◌+◌, ◌≤◌, not, List, length, position, None, vec_items, sym, ap, ◌∙◌, subst, ap₂, rules}
+use Rattle.std.proofs.lemmas.Bool.{true≢false}
 use Rattle.sources.specs.Lists.{has, first}
 use Rattle.machine.specs.Machine.{with_lists, outside}
 use Rattle.minter.specs.Meaning.{over}
@@ -16,23 +17,17 @@ returns-in_err-at-clause-answer c =
 pub invariant_of-self-2-clause-hold_places : goal.invariant_of-self-2-clause-hold_places
 invariant_of-self-2-clause-hold_places c =
     let s = c.args.self.now in
-    let p : ℕ → Bool = λ x. has x (vec_items s.held) in
-    let at = splits_Some p (vec_items s.aside) c.in_ok-at.at (sym (c.in_ok-at.ensures ∙ ap₂ (λ (hs xs : List ℕ). position (λ x. not (has x hs)) xs) c.deref-2.ensures.value c.deref.ensures.value)) in
-    let taken = taken_at p (vec_items s.aside) c.in_ok-at.at (vec_items c.remove.new.self) c.remove.result at c.remove.ensures.value c.remove.ensures.items in
+    let at = splits_Some (λ x. has x (vec_items s.held)) (vec_items s.aside) c.in_ok-at.at (sym (c.in_ok-at.ensures ∙ ap₂ (λ (hs xs : List ℕ). position (λ x. not (has x hs)) xs) c.deref-2.ensures.value c.deref.ensures.value)) in
+    let taken = taken_at (λ x. has x (vec_items s.held)) (vec_items s.aside) c.in_ok-at.at (vec_items c.remove.new.self) c.remove.result at c.remove.ensures.value c.remove.ensures.items in
     subst (λ (xs : List ℕ). length xs + outside xs (vec_items s.held) ≤ 64) (sym taken.1) (taken_few (vec_items s.aside) (vec_items s.held) s.hold_places)
 
-pub returns-clause-answer : goal.returns-clause-answer
-returns-clause-answer c =
+pub returns : goal.returns
+returns c =
     let s = c.args.self.now in
-    let p : ℕ → Bool = λ x. has x (vec_items s.held) in
-    let at = splits_Some p (vec_items s.aside) c.in_ok-at.at (sym (c.in_ok-at.ensures ∙ ap₂ (λ (hs xs : List ℕ). position (λ x. not (has x hs)) xs) c.deref-2.ensures.value c.deref.ensures.value)) in
-    let taken = taken_at p (vec_items s.aside) c.in_ok-at.at (vec_items c.remove.new.self) c.remove.result at c.remove.ensures.value c.remove.ensures.items in
-    taken.0
-
-pub returns-clause-after : goal.returns-clause-after
-returns-clause-after c =
-    let s = c.args.self.now in
-    let p : ℕ → Bool = λ x. has x (vec_items s.held) in
-    let at = splits_Some p (vec_items s.aside) c.in_ok-at.at (sym (c.in_ok-at.ensures ∙ ap₂ (λ (hs xs : List ℕ). position (λ x. not (has x hs)) xs) c.deref-2.ensures.value c.deref.ensures.value)) in
-    let taken = taken_at p (vec_items s.aside) c.in_ok-at.at (vec_items c.remove.new.self) c.remove.result at c.remove.ensures.value c.remove.ensures.items in
-    (λ e m. ap (λ (xs : List ℕ). with_lists (over m s) m.source xs (vec_items s.returned)) taken.1)
+    let at = splits_Some (λ x. has x (vec_items s.held)) (vec_items s.aside) c.in_ok-at.at (sym (c.in_ok-at.ensures ∙ ap₂ (λ (hs xs : List ℕ). position (λ x. not (has x hs)) xs) c.deref-2.ensures.value c.deref.ensures.value)) in
+    let taken = taken_at (λ x. has x (vec_items s.held)) (vec_items s.aside) c.in_ok-at.at (vec_items c.remove.new.self) c.remove.result at c.remove.ensures.value c.remove.ensures.items in
+    record {
+      answer = taken.0;
+      after = λ e m. ap (λ (xs : List ℕ). with_lists (over m s) m.source xs (vec_items s.returned)) taken.1;
+      refusal = λ e. absurd (true≢false e);
+    }
