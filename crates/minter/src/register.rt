@@ -9,13 +9,13 @@ use sources::source::Source;
 use stores::store::Store;
 use stores::text::TextKey;
 
+mod binds;
 mod draws;
 mod holds;
 mod makes;
 mod naming;
 mod queues;
 mod serves;
-mod texts;
 
 // Numbers passed by a mint while they were held; names taken back, those that are due and those that are not yet; the
 // numbers on hold, ascending. All memory is reserved when the register is made.
