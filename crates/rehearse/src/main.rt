@@ -76,12 +76,9 @@ fn rehearse(rt: &HostRuntime, template: Template, count: u64) -> anyhow::Result<
         number: 0,
         element: Element::Who,
     };
-    let Some(value) = Text::read(b"") else {
-        return Err(anyhow!("the empty text is too long"));
-    };
     let mut nodes = vec![in heap; Node {
         key,
-        value,
+        value: Text::new(),
         next: 0
     }; 529]?;
     format(nodes.as_mut_slice()).map_err(|_| anyhow!(
