@@ -42,7 +42,7 @@ pub(crate) fn value_to<K, V: Copy>(nodes: &[Node<K, V>], at: usize, place: &mut 
     true
 }
 
-// These three write by index under a test: of a slice's `get_mut` a proof learns the length and no element.
+// These three differ in the field that they write, and one function over a closure is no plainer; they write by index, since of a slice's `get_mut` a proof learns the length and no element.
 #[tactic(auto, using(crate::proofs::Columns::writes))]
 pub(crate) fn set_next<K, V>(nodes: &mut [Node<K, V>], at: usize, to: u16)
     ensures links { (table nodes.new).links ≡ slice_set (table nodes.old).links at to }

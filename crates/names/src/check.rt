@@ -23,8 +23,5 @@ fn weight(b: u8) -> usize
     ensures value { result ≡ value_of b }
     ensures small { result < 29 }
 {
-    match value(b) {
-        Some(v) => v as usize,
-        None => 0,
-    }
+    value(b).map_or(0, usize::from)
 }

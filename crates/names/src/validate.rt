@@ -42,10 +42,7 @@ impl Parts<'_> {
     {
         let mut number = 0;
         for (i, b) in text.iter().enumerate() {
-            match self.slot_at(i).count(*b, number) {
-                Some(n) => number = n,
-                None => return Err(NameFault::Byte(i)),
-            }
+            number = self.slot_at(i).count(*b, number).ok_or(NameFault::Byte(i))?;
         }
         Ok(number)
     }
@@ -55,10 +52,9 @@ impl Parts<'_> {
         requires { 0 < length text.now }
         ensures { result ≡ Validate.closes self.now.check text.now }
     {
-        if !self.check {
-            return true;
+        match text.split_last() {
+            Some((last, front)) if self.check => check_character(front) == *last,
+            _ => true,
         }
-        let last = text.len() - 1;
-        check_character(&text[0..last]) == text[last]
     }
 }

@@ -1,22 +1,26 @@
-use Rattle.std.proofs.Common.{◌≡◌, ℕ, suc, ◌+◌, ◌-◌, ◌^◌, ◌<◌, ◌≤◌, Bool, true, false, cond, List, [], length, get_or, drop, Some, None, Err, Option, sym, refl, ap, ◌∙◌, subst, ⊎_elim, pow-suc, arith}
+use Rattle.std.proofs.Common.{◌≡◌, ℕ, suc, ◌+◌, ◌-◌, ◌^◌, ◌<◌, ◌≤◌, Bool, true, false, cond, List, [], length, get_or, drop, Some, None, Ok, Err, Result, sym, refl, ap, ◌∙◌, subst, ⊎_elim, pow-suc, arith}
 use native.Mathlib.Nat.{pow-le-pow_right}
 use Rattle.std.proofs.lemmas.List.{drop_all}
 use Rattle.std.proofs.lemmas.Bool.{cases_lt, cond-true, cond-false}
+use Rattle.std.specs.Option.{ok_or}
+use Rattle.std.proofs.lemmas.Result.{err_from_is_err_and}
 use Rattle.names.specs.Naming.{with_parts}
 use Rattle.names.specs.Validate.{slots, fits, counted, walked}
+use Rattle.names.specs.declared.fault.NameFault.{NameFault}
 use Rattle.names.specs.declared.fault.NameFault.TheVariants.{Byte}
 use Rattle.names.specs.declared.slot.Slot.{Slot}
 use Rattle.names.specs.declared.slot.Slot.TheVariants.{Closing}
 use Rattle.names.proofs.Slots.{in_prefix, length_slots, walked_more, walked_end, counted_small}
 use Rattle.names.proofs.parts.Parts.walk.Goals as goal
 
-some_from : (x : Bool) (v n : ℕ) → cond x (Some v) None ≡ Some n → (x ≡ true) × (v ≡ n)
-some_from true v n e = (refl, cc)
-some_from false v n e = absurd (let z : ◌≡◌ {A = ℕ} 0 1 = cc in omega arith)
+-- what the code's number of a byte was, by whether the byte fits its place
+taken : (x : Bool) (v n : ℕ) (e : NameFault) → ok_or (cond x (Some v) None) e ≡ Ok n → (x ≡ true) × (v ≡ n)
+taken true v n e h = (refl, cc)
+taken false v n e h = absurd (let z : ◌≡◌ {A = ℕ} 0 1 = cc in omega arith)
 
-none_from : (x : Bool) (v : ℕ) → ◌≡◌ {A = Option ℕ} (cond x (Some v) None) None → x ≡ false
-none_from true v e = absurd (let z : ◌≡◌ {A = ℕ} 0 1 = cc in omega arith)
-none_from false v e = refl
+refused : (x : Bool) (v : ℕ) (e r : NameFault) → ◌≡◌ {A = Result ℕ NameFault} (ok_or (cond x (Some v) None) e) (Err r) → (x ≡ false) × (e ≡ r)
+refused true v e r h = absurd (let z : ◌≡◌ {A = ℕ} 0 1 = cc in omega arith)
+refused false v e r h = (refl, cc)
 
 -- the number stays below 29 to the number of positions read
 grows : (p m : List ℕ) (i b n : ℕ) → n < 29 ^ (i - length p) → counted (get_or (slots (with_parts p m true)) i Closing) b n < 29 ^ (i + 1 - length p)
@@ -51,8 +55,8 @@ stepped p m t i n s few h e =
     walked_more i n ss t (omega arith) h
     ∙ ap (λ u. cond (fits u (get_or t i 0)) (walked (i + 1) (counted u (get_or t i 0) n) (drop (i + 1) ss) (drop (i + 1) t)) (Err (Byte i))) (sym e)
 
-pub returns-in-None : goal.returns-in-None
-returns-in-None c =
+pub returns-in_err-number : goal.returns-in_err-number
+returns-in_err-number c =
     let p = c.args.self.now.prefix.now in
     let m = c.args.self.now.mask.now in
     let t = c.args.text.now in
@@ -60,10 +64,11 @@ returns-in-None c =
     let n = c.loop-i.number in
     let s = c.slot_at.result in
     let b = get_or t i 0 in
-    let bad : fits s b ≡ false = none_from (fits s b) (counted s b n) (sym c.in-None.ensures) in
+    let bad = refused (fits s b) (counted s b n) (Byte i) c.in_err-number.field-0.0 (sym (c.ok_or.ensures.value ∙ ap (λ o. ok_or o (Byte i)) c.count.ensures) ∙ c.in_err-number.was) in
     let step = stepped p m t i n s c.requires c.loop-i-test.true c.slot_at.ensures in
-    let refused : walked i n (drop i (slots (with_parts p m true))) (drop i t) ≡ Err (Byte i) = step ∙ cond-false (fits s b) (walked (i + 1) (counted s b n) (drop (i + 1) (slots (with_parts p m true))) (drop (i + 1) t)) (Err (Byte i)) bad in
-    sym refused ∙ c.loop-i.invariant.0
+    let none : walked i n (drop i (slots (with_parts p m true))) (drop i t) ≡ Err (Byte i) = step ∙ cond-false (fits s b) (walked (i + 1) (counted s b n) (drop (i + 1) (slots (with_parts p m true))) (drop (i + 1) t)) (Err (Byte i)) bad.0 in
+    let exit = err_from_is_err_and c.from_residual.result c.from_residual.ensures.1 in
+    rw (exit.1, exit.2) (ap Err (sym bad.1) ∙ (sym none ∙ c.loop-i.invariant.0))
 
 pub loop-i-preserved : goal.loop-i-preserved
 loop-i-preserved c =
@@ -75,13 +80,13 @@ loop-i-preserved c =
     let s = c.slot_at.result in
     let b = get_or t i 0 in
     let ss = slots (with_parts p m true) in
-    let good = some_from (fits s b) (counted s b n) c.in-Some.n (sym c.in-Some.ensures) in
+    let good = taken (fits s b) (counted s b n) c.in_ok-number.number (Byte i) (sym (c.ok_or.ensures.value ∙ ap (λ o. ok_or o (Byte i)) c.count.ensures) ∙ c.in_ok-number.was) in
     let step = stepped p m t i n s c.requires c.loop-i-test.true c.slot_at.ensures in
-    let taken : walked i n (drop i ss) (drop i t) ≡ walked (i + 1) c.in-Some.n (drop (i + 1) ss) (drop (i + 1) t) =
+    let went : walked i n (drop i ss) (drop i t) ≡ walked (i + 1) c.in_ok-number.number (drop (i + 1) ss) (drop (i + 1) t) =
     step ∙ (cond-true (fits s b) (walked (i + 1) (counted s b n) (drop (i + 1) ss) (drop (i + 1) t)) (Err (Byte i)) good.0 ∙ ap (λ k. walked (i + 1) k (drop (i + 1) ss) (drop (i + 1) t)) good.1) in
     let small : counted (get_or ss i Closing) b n < 29 ^ (i + 1 - length p) = grows p m i b n c.loop-i.invariant.1 in
-    let same : counted (get_or ss i Closing) b n ≡ c.in-Some.n = ap (λ u. counted u b n) (sym c.slot_at.ensures) ∙ good.1 in
-    (sym taken ∙ c.loop-i.invariant.0, subst (λ (k : ℕ). k < 29 ^ (i + 1 - length p)) same small)
+    let same : counted (get_or ss i Closing) b n ≡ c.in_ok-number.number = ap (λ u. counted u b n) (sym c.slot_at.ensures) ∙ good.1 in
+    (sym went ∙ c.loop-i.invariant.0, subst (λ (k : ℕ). k < 29 ^ (i + 1 - length p)) same small)
 
 pub returns : goal.returns
 returns c =
