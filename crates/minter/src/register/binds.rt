@@ -14,6 +14,7 @@ use sources::source::Source;
 use stores::store::Store;
 use stores::text::{Element, TextKey};
 
+// Number and element come apart in three of these, as in the machine's definitions: with a `TextKey` for both the proof of `put_text` did not close.
 impl<S: Source, T: Store<TextKey, Text>> Register<S, T> {
     fn has_text_under(&self, n: u64, element: Element) -> bool
         ensures { T.Store.sound self.now.texts → result ≡ text_under (meaning S.Source.stock T.Store.pairs T.Store.capacity self.now) n element }
