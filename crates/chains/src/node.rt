@@ -1,4 +1,4 @@
-// A record of the chain table.
+// A record of the chain table, in the form that the rules fix: the next record by its index, zero at a chain's end.
 #[derive(Clone, Copy, PartialEq, Eq, Debug)]
 pub struct Node<K, V> {
     pub key: K,

@@ -12,7 +12,7 @@ mod passes;
 mod queues;
 
 // Numbers passed by a mint while they were held; names taken back, those that are due and those that are not yet; the
-// numbers on hold, ascending. Each list has its room from the start.
+// numbers on hold, ascending. Each list has its room from the start; std's sets and maps would take memory at an insert.
 #[derive(Drop)]
 pub(crate) struct Lists {
     pub(crate) aside: Vec<u64>,

@@ -43,6 +43,7 @@ pub trait Store<K: Key, V> {
         ensures found { sound self.old → full K.Key.alike (pairs self.old) (capacity self.old) k ≡ false → (q : K) → look K.Key.alike (pairs self.new) q ≡ turned K.Key.alike (look K.Key.alike (pairs self.old)) k (Some v) q }
         ensures many { sound self.old → full K.Key.alike (pairs self.old) (capacity self.old) k ≡ false → length (pairs self.new) ≡ more (is_some (look K.Key.alike (pairs self.old) k)) (length (pairs self.old)) };
 
+    // By the rules the value goes to the caller's place, which stays as it was where there is none: so no Option of a value.
     fn get(&self, k: &K, place: &mut V) -> bool
         ensures kept { sound self.now → Kept K.Key.alike (pairs self.now) (capacity self.now) }
         ensures answer { sound self.now → result ≡ is_some (look K.Key.alike (pairs self.now) k.now) }

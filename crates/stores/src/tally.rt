@@ -7,7 +7,7 @@ ghost use Rattle.std.proofs.Common.{rules};
 use crate::fault::StoreFault;
 use crate::store::{Key, Store};
 
-// A refusal's number.
+// A refusal's number, under which its tally lies by the rules.
 #[derive(Clone, Copy, PartialEq, Eq, Debug)]
 pub struct TallyKey {
     pub number: u8,
