@@ -7,13 +7,13 @@ use sources::source::Source;
 use stores::store::Store;
 use stores::text::TextKey;
 
+mod binds;
 mod draws;
 mod holds;
 mod makes;
 mod naming;
 mod queues;
 mod serves;
-mod texts;
 
 // All memory is reserved when the register is made.
 // The contracts of its calls name `meaning` in place of an `impl Model`: a model hides the fields, and a refusal's `self.new ≡ self.old` would say less.

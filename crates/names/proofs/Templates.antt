@@ -1,14 +1,14 @@
 -- What a template's ghost facts give, and what gives them. Nothing is assumed.
-use Rattle.std.proofs.Common.{◌≡◌, ℕ, ◌+◌, ◌-◌, ◌≤◌, Bool, true, false, cond, not, ◌&&◌, eqb, List, ◌∷◌, ◌++◌, length, get_or, take, drop, replicate, Ok, Err, Result, sym, refl, ap, ◌∙◌, subst, arith}
-use Rattle.std.proofs.lemmas.List.{length-append, take_at, take-take, get_or-take, drop-take}
+use Rattle.std.proofs.Common.{◌≡◌, ℕ, ◌+◌, ◌≤◌, Bool, true, false, cond, not, ◌&&◌, eqb, List, ◌∷◌, ◌++◌, length, Ok, Err, Result, sym, refl, ap, ◌∙◌, subst, arith}
+use Rattle.std.proofs.lemmas.List.{length-append}
 use Rattle.std.proofs.lemmas.Bool.{eqb-true, eq-eqb, and_parts, and_from}
 use Rattle.names.specs.declared.fault.TemplateFault.{TemplateFault}
 use Rattle.names.specs.declared.template.parts.Shape.{Shape}
 use Rattle.names.specs.declared.template.Template.{Template}
 use Rattle.names.specs.Forms.{Form, spelled, closing, Good}
-use Rattle.names.specs.Reader.{read_shape, reads_as, form_of, formed, read_template}
+use Rattle.names.specs.Reader.{read_shape, reads_as, read_template}
 use Rattle.names.specs.Grammar.{Grammatical, Is, Exact}
-use Rattle.names.specs.Templates.{form, padded}
+use Rattle.names.specs.Templates.{form}
 use Rattle.names.proofs.Goes.{shape_in}
 use Rattle.names.proofs.Exactly.{read_complete, prefix_long, complete_is, good_from, exact}
 
@@ -70,34 +70,10 @@ sizes text t e =
     let P : List ℕ → Type 0 = λ l. Sizes l t in
     subst P (sym c.is) (subst (Sizes (spelled c.form)) c.shape_is (sizes_in c.form c.good))
 
--- the parts stand in the bytes up to the length
-form_taken : (len : ℕ) (text : List ℕ) (t : Shape) → 8 + t.shoulder + t.mask ≤ len → form_of (take len text) t ≡ form_of text t
-form_taken len text t h =
-    let sh = t.shoulder in
-    let n = 8 + sh in
-    let past : n + (len - n) ≡ len = omega arith in
-    let front : take (6 + sh) (take len text) ≡ take (6 + sh) text = take-take (6 + sh) len text (omega arith) in
-    let letter : get_or (take len text) (7 + sh) 0 ≡ get_or text (7 + sh) 0 = get_or-take len text (7 + sh) 0 (omega arith) in
-    let mask : take t.mask (drop n (take len text)) ≡ take t.mask (drop n text) =
-    ap (λ k. take t.mask (drop n (take k text))) (sym past)
-    ∙ ap (take t.mask) (drop-take n (len - n) text)
-    ∙ take-take t.mask (len - n) (drop n text) (omega arith) in
-    (λ j. record { prefix = front j; letter = letter j; mask = mask j; check = t.check })
-
-pub take_padded : (text : List ℕ) → take (length text) (padded text) ≡ text
-take_padded text = take_at text (drop (length text) (replicate 30 0)) (length text) refl
-
-pub form_padded : (text : List ℕ) (t : Shape) → read_shape text ≡ Ok t → form_of (padded text) t ≡ form_of text t
-form_padded text t e =
-    sym (form_taken (length text) (padded text) t (omega (arith, (sizes text t e).sum))) ∙ ap (λ l. form_of l t) (take_padded text)
-
 -- a template's own text is that of its form
-pub form_own : (t : Template) → Is (take t.len t.text) (form t)
+pub form_own : (t : Template) → Is t.text (form t)
 form_own t =
-    let own = take t.len t.text in
-    let e = reads_true (read_shape own) t.shape t.reads in
-    let P : Form → Type 0 = Is own in
-    subst P (form_taken t.len t.text t.shape (omega (arith, t.sum))) (complete_is own t.shape (read_complete own t.shape e))
+    complete_is t.text t.shape (read_complete t.text t.shape (reads_true (read_shape t.text) t.shape t.reads))
 
 pub grammatical : (t : Template) → Grammatical (form t)
 grammatical t = (form_own t).1
@@ -108,11 +84,3 @@ good t = good_from (form t) (grammatical t)
 -- what a reading owes, for any answer that equals the definition's
 pub exact_told : (text : List ℕ) (r : Result Form TemplateFault) → r ≡ read_template text → Exact text r
 exact_told text r e = subst (Exact text) (sym e) (exact text)
-
-pub answered : (text bytes : List ℕ) (t : Shape) → read_shape text ≡ Ok t → bytes ≡ padded text → Ok (form_of bytes t) ≡ read_template text
-answered text bytes t e is =
-    ap (λ l. Ok (form_of l t)) is ∙ ap Ok (form_padded text t e) ∙ ap (formed text) (sym e)
-
-pub reads_padded : (text bytes : List ℕ) (t : Shape) → read_shape text ≡ Ok t → bytes ≡ padded text → reads_as (read_shape (take (length text) bytes)) t ≡ true
-reads_padded text bytes t e is =
-    reads_made (read_shape (take (length text) bytes)) t (ap (λ l. read_shape (take (length text) l)) is ∙ ap read_shape (take_padded text) ∙ e)

@@ -6,6 +6,7 @@ pub mod check;
 pub mod fault;
 pub mod name;
 mod naming;
+mod parts;
 mod slot;
 pub mod template;
 mod validate;

@@ -1,11 +1,12 @@
 // A name: at most 28 bytes.
-ghost use Rattle.std.specs.Prelude.{◌≤◌};
+ghost use Rattle.std.specs.Prelude.{◌≤◌, length};
+
+use texts::short::Short;
 
 pub mod calls;
 
 #[derive(Clone, Copy)]
 pub struct Name {
-    bytes: [u8; 28],
-    len: usize,
-    ghost fits: { len ≤ 28 },
+    text: Short<28>,
+    ghost fits: { length text ≤ 28 },
 }

@@ -4,6 +4,7 @@ ghost use Rattle.names.specs.Validate.{position, fits, counted, slots};
 ghost use Rattle.names.specs.Naming.{with_parts};
 
 use super::alphabet::value;
+use super::parts::Parts;
 
 // A byte of the prefix, a digit at d, any of the 29 at e, and the check character.
 #[derive(Clone, Copy)]
@@ -14,16 +15,18 @@ pub(crate) enum Slot {
     Closing,
 }
 
-// What stands at place i of a name; behind the mask only a check character can stand.
-pub(crate) fn slot_at(prefix: &[u8], mask: &[u8], i: usize) -> Slot
-    ensures { result ≡ slice_index_or (slots (with_parts prefix.now mask.now true)) i Slot.Closing }
-{
-    if i < prefix.len() {
-        Slot::Fixed(prefix[i])
-    } else if i - prefix.len() < mask.len() {
-        slot_of(mask[i - prefix.len()])
-    } else {
-        Slot::Closing
+impl Parts<'_> {
+    // What stands at place i of a name; behind the mask only a check character can stand.
+    pub(crate) fn slot_at(&self, i: usize) -> Slot
+        ensures { result ≡ slice_index_or (slots (with_parts self.now.prefix.now self.now.mask.now true)) i Slot.Closing }
+    {
+        if i < self.prefix.len() {
+            Slot::Fixed(self.prefix[i])
+        } else if i - self.prefix.len() < self.mask.len() {
+            slot_of(self.mask[i - self.prefix.len()])
+        } else {
+            Slot::Closing
+        }
     }
 }
 

@@ -84,7 +84,7 @@ performed_short m (validate t) short few fair brief = looked m (λ n. line (vali
 -- ---- lines that are read, over a register
 
 text_short : (x : Text) → length (bytes_of x) ≤ 40
-text_short x = let few = x.fits in omega (arith, length-take x.len x.bytes)
+text_short x = x.fits
 
 option_short : (o : Option Text) → length (unwrap_or (option_map bytes_of o) []) ≤ 40
 option_short None = omega arith

@@ -116,13 +116,6 @@ fn mint_names<S: Source, T: Store<TextKey, Text>>(
     }
 }
 
-// The text of no bytes.
-fn blank() -> Text
-    ensures { bytes_of result ≡ [] }
-{
-    Text::read(b"").unwrap()
-}
-
 // Reports the text under a name and an element.
 fn fetch_text<S: Source, T: Store<TextKey, Text>>(
     register: &Register<S, T>,
@@ -133,7 +126,7 @@ fn fetch_text<S: Source, T: Store<TextKey, Text>>(
 ) -> Done
     ensures { T.Store.sound register.now.texts → Did (performed (meaning S.Source.stock T.Store.pairs T.Store.capacity register.now) (fetch name.now word.now element)) (meaning S.Source.stock T.Store.pairs T.Store.capacity register.now) out.old out.new result }
 {
-    let mut text = blank();
+    let mut text = Text::new();
     match register.fetch(name, element, &mut text) {
         Ok(n) => {
             let name = register.name(n);

@@ -6,6 +6,7 @@ ghost use Rattle.texts.specs.Pieces.{pieces, upto};
 
 pub mod output;
 pub mod pieces;
+pub mod short;
 
 // Where the piece that begins at `from` ends: at the next `mark`, or with the text. From past the text's end on that is `from` itself.
 pub fn piece_end(text: &[u8], from: usize, mark: u8) -> usize

@@ -1,25 +1,25 @@
 // How a name is made, and what it gives.
-ghost use Rattle.std.specs.Prelude.{◌≡◌, ◌≤◌, take};
+ghost use Rattle.std.specs.Prelude.{◌≡◌, ◌≤◌, length};
 ghost use Rattle.names.specs.Texts.{text_of};
 
 use super::Name;
 use std::fmt;
+use texts::short::Short;
 
 impl Name {
-    // The name of the first `len` bytes.
-    pub(crate) fn of(bytes: [u8; 28], len: usize) -> Name
-        requires { len ≤ 28 }
-        ensures { text_of result ≡ take len bytes }
+    // The name that a text is.
+    pub(crate) fn of(text: Short<28>) -> Name
+        requires { length text ≤ 28 }
+        ensures { text_of result ≡ text }
     {
-        Name { bytes, len }
+        Name { text }
     }
 
     // The bytes of the name.
     pub fn as_slice(&self) -> &[u8]
         ensures { result.now ≡ text_of self.now }
     {
-        let len = self.len;
-        &self.bytes[0..len]
+        self.text.as_slice()
     }
 }
 

@@ -1,24 +1,15 @@
 // What a template gives.
-ghost use Rattle.std.specs.Prelude.{◌≡◌, ◌≤◌, length, ◌==◌};
+ghost use Rattle.std.specs.Prelude.{◌≡◌, ◌==◌};
 ghost use Rattle.names.specs.Forms.{spelled};
 ghost use Rattle.names.specs.Grammar.{Exact};
 ghost use Rattle.names.specs.Reader.{read_template};
-ghost use Rattle.names.specs.Templates.{form, told, padded};
+ghost use Rattle.names.specs.Templates.{form, told};
 
 use super::Template;
 use super::read::shape;
 use crate::fault::TemplateFault;
-
-// The bytes of a text as a template keeps them.
-fn kept(text: &[u8]) -> [u8; 30]
-    requires { length text.now ≤ 30 }
-    ensures { result ≡ padded text.now }
-{
-    let mut bytes = [0u8; 30];
-    let len = text.len();
-    bytes[0..len].copy_from_slice(text);
-    bytes
-}
+use crate::parts::Parts;
+use texts::short::Short;
 
 impl Template {
     // The template that a text is, or the first fault of the text.
@@ -27,27 +18,23 @@ impl Template {
         ensures exact { Exact text.now (told result) }
     {
         let shape = shape(text)?;
-        Ok(Template {
-            text: kept(text),
-            len: text.len(),
-            shape,
-        })
+        let kept = Short::front(text);
+        Ok(Template { text: kept, shape })
     }
 
     // The text as it was read.
     pub fn text(&self) -> &[u8]
         ensures { result.now ≡ spelled (form self.now) }
     {
-        let len = self.len;
-        &self.text[0..len]
+        self.text.as_slice()
     }
 
     // Whether the letter is r, and not s.
     pub fn scrambled(&self) -> bool
         ensures { result ≡ ((form self.now).letter == 114) }
     {
-        let shoulder = self.shape.shoulder as usize;
-        self.text[7 + shoulder] == b'r'
+        let text = self.text.as_slice();
+        text[7 + self.shape.shoulder as usize] == b'r'
     }
 
     // Whether the names end in a check character.
@@ -57,20 +44,20 @@ impl Template {
         self.shape.check
     }
 
-    // The text before the dot, with which each name begins.
-    pub(crate) fn prefix(&self) -> &[u8]
-        ensures { result.now ≡ (form self.now).prefix }
+    // What the names are made of.
+    pub(crate) fn parts(&self) -> Parts<'_>
+        ensures prefix { result.prefix.now ≡ (form self.now).prefix }
+        ensures mask { result.mask.now ≡ (form self.now).mask }
+        ensures check { result.check ≡ (form self.now).check }
     {
-        let end = 6 + self.shape.shoulder as usize;
-        &self.text[0..end]
-    }
-
-    // The mask: a byte d or e for each position.
-    pub(crate) fn mask(&self) -> &[u8]
-        ensures { result.now ≡ (form self.now).mask }
-    {
-        let start = 8 + self.shape.shoulder as usize;
-        let end = start + self.shape.mask as usize;
-        &self.text[start..end]
+        let text = self.text.as_slice();
+        let dot = 6 + self.shape.shoulder as usize;
+        let mask = dot + 2;
+        let end = mask + self.shape.mask as usize;
+        Parts {
+            prefix: &text[..dot],
+            mask: &text[mask..end],
+            check: self.shape.check,
+        }
     }
 }

@@ -10,7 +10,6 @@ ghost use Rattle.names.specs.Validate.{reads};
 use super::Template;
 use crate::fault::NameFault;
 use crate::name::Name;
-use crate::{naming, validate};
 
 impl Template {
     // How many names there are.
@@ -18,7 +17,7 @@ impl Template {
         ensures value { result ≡ Naming.total (form self.now).mask }
         ensures small { result ≤ 29 ^ 8 }
     {
-        naming::total_of(self.mask())
+        self.parts().total()
     }
 
     // Name number n; empty from the total on.
@@ -26,7 +25,7 @@ impl Template {
         ensures value { text_of result ≡ name_of (form self.now) n }
         ensures undo { Undo (form self.now) }
     {
-        naming::name(self.prefix(), self.mask(), self.checked(), n)
+        self.parts().name(n)
     }
 
     // The number of the name that a text is, or why it is none: its length, its first wrong byte, its check character.
@@ -34,6 +33,6 @@ impl Template {
         ensures value { result ≡ reads (form self.now) text.now }
         ensures guard { Guard (form self.now) }
     {
-        validate::validate(self.prefix(), self.mask(), self.checked(), text)
+        self.parts().validate(text)
     }
 }

@@ -14,18 +14,11 @@ use sources::source::Source;
 use stores::store::Store;
 use stores::text::{Element, TextKey};
 
-// A place for a text.
-fn blank() -> Text
-    ensures { bytes_of result ≡ [] }
-{
-    Text::read(b"").unwrap()
-}
-
 impl<S: Source, T: Store<TextKey, Text>> Register<S, T> {
     fn has_text_under(&self, n: u64, element: Element) -> bool
         ensures { T.Store.sound self.now.texts → result ≡ text_under (meaning S.Source.stock T.Store.pairs T.Store.capacity self.now) n element }
     {
-        let mut place = blank();
+        let mut place = Text::new();
         let key = TextKey { number: n, element };
         self.texts.get(&key, &mut place)
     }

@@ -8,7 +8,7 @@ use Rattle.names.specs.declared.fault.NameFault.TheVariants.{Byte}
 use Rattle.names.specs.declared.slot.Slot.{Slot}
 use Rattle.names.specs.declared.slot.Slot.TheVariants.{Closing}
 use Rattle.names.proofs.Slots.{in_prefix, length_slots, walked_more, walked_end, counted_small}
-use Rattle.names.proofs.validate.walk.Goals as goal
+use Rattle.names.proofs.parts.Parts.walk.Goals as goal
 
 some_from : (x : Bool) (v n : ℕ) → cond x (Some v) None ≡ Some n → (x ≡ true) × (v ≡ n)
 some_from true v n e = (refl, cc)
@@ -32,13 +32,13 @@ grows p m i b n h =
 
 pub loop-i-init : goal.loop-i-init
 loop-i-init c =
-    let none : 0 - length c.args.prefix.now ≡ 0 = omega arith in
-    (refl, rw none (omega arith), c.requires.0, c.requires.1)
+    let none : 0 - length c.args.self.now.prefix.now ≡ 0 = omega arith in
+    (refl, rw none (omega arith))
 
 pub count-requires : goal.count-requires
 count-requires c =
-    let few : c.loop-i.i - length c.args.prefix.now ≤ 8 = omega arith in
-    let up : 29 ^ (c.loop-i.i - length c.args.prefix.now) ≤ 29 ^ 8 = pow-le-pow_right {n = 29} (omega arith) few in
+    let few : c.loop-i.i - length c.args.self.now.prefix.now ≤ 8 = omega arith in
+    let up : 29 ^ (c.loop-i.i - length c.args.self.now.prefix.now) ≤ 29 ^ 8 = pow-le-pow_right {n = 29} (omega arith) few in
     omega (arith, c.loop-i.invariant.1)
 
 -- the walk from place i on, by what the code's slot took
@@ -53,22 +53,22 @@ stepped p m t i n s few h e =
 
 pub returns-in-None : goal.returns-in-None
 returns-in-None c =
-    let p = c.args.prefix.now in
-    let m = c.args.mask.now in
+    let p = c.args.self.now.prefix.now in
+    let m = c.args.self.now.mask.now in
     let t = c.args.text.now in
     let i = c.loop-i.i in
     let n = c.loop-i.number in
     let s = c.slot_at.result in
     let b = get_or t i 0 in
     let bad : fits s b ≡ false = none_from (fits s b) (counted s b n) (sym c.in-None.ensures) in
-    let step = stepped p m t i n s c.requires.0 c.loop-i-test.true c.slot_at.ensures in
+    let step = stepped p m t i n s c.requires c.loop-i-test.true c.slot_at.ensures in
     let refused : walked i n (drop i (slots (with_parts p m true))) (drop i t) ≡ Err (Byte i) = step ∙ cond-false (fits s b) (walked (i + 1) (counted s b n) (drop (i + 1) (slots (with_parts p m true))) (drop (i + 1) t)) (Err (Byte i)) bad in
     sym refused ∙ c.loop-i.invariant.0
 
 pub loop-i-preserved : goal.loop-i-preserved
 loop-i-preserved c =
-    let p = c.args.prefix.now in
-    let m = c.args.mask.now in
+    let p = c.args.self.now.prefix.now in
+    let m = c.args.self.now.mask.now in
     let t = c.args.text.now in
     let i = c.loop-i.i in
     let n = c.loop-i.number in
@@ -76,17 +76,17 @@ loop-i-preserved c =
     let b = get_or t i 0 in
     let ss = slots (with_parts p m true) in
     let good = some_from (fits s b) (counted s b n) c.in-Some.n (sym c.in-Some.ensures) in
-    let step = stepped p m t i n s c.requires.0 c.loop-i-test.true c.slot_at.ensures in
+    let step = stepped p m t i n s c.requires c.loop-i-test.true c.slot_at.ensures in
     let taken : walked i n (drop i ss) (drop i t) ≡ walked (i + 1) c.in-Some.n (drop (i + 1) ss) (drop (i + 1) t) =
     step ∙ (cond-true (fits s b) (walked (i + 1) (counted s b n) (drop (i + 1) ss) (drop (i + 1) t)) (Err (Byte i)) good.0 ∙ ap (λ k. walked (i + 1) k (drop (i + 1) ss) (drop (i + 1) t)) good.1) in
     let small : counted (get_or ss i Closing) b n < 29 ^ (i + 1 - length p) = grows p m i b n c.loop-i.invariant.1 in
     let same : counted (get_or ss i Closing) b n ≡ c.in-Some.n = ap (λ u. counted u b n) (sym c.slot_at.ensures) ∙ good.1 in
-    (sym taken ∙ c.loop-i.invariant.0, subst (λ (k : ℕ). k < 29 ^ (i + 1 - length p)) same small, c.requires.0, c.requires.1)
+    (sym taken ∙ c.loop-i.invariant.0, subst (λ (k : ℕ). k < 29 ^ (i + 1 - length p)) same small)
 
 pub returns : goal.returns
 returns c =
     let i = c.loop-i.i in
     let n = c.loop-i.number in
-    let ss = slots (with_parts c.args.prefix.now c.args.mask.now true) in
+    let ss = slots (with_parts c.args.self.now.prefix.now c.args.self.now.mask.now true) in
     let done : drop i c.args.text.now ≡ [] = drop_all i c.args.text.now (omega arith) in
     sym (walked_end i n (drop i ss)) ∙ (ap (walked i n (drop i ss)) (sym done) ∙ c.loop-i.invariant.0)
