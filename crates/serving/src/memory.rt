@@ -28,7 +28,7 @@ impl Memory {
             number: 0,
             element: Element::Who,
         };
-        let value = Text::read(b"").unwrap();
+        let value = Text::new();
         let nodes = vec![in heap; Node {
             key,
             value,

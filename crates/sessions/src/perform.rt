@@ -4,7 +4,6 @@ ghost use Rattle.commands.specs.Forms.{fetch, said, validate};
 ghost use Rattle.machine.specs.Calls.{asked};
 ghost use Rattle.minter.specs.Meaning.{meaning};
 ghost use Rattle.machine.specs.Runs.{Sound};
-ghost use Rattle.machine.specs.Texts.{bytes_of};
 ghost use Rattle.reports.specs.Reports.{line, told};
 ghost use Rattle.texts.specs.Output.{Puts};
 ghost use Rattle.sessions.specs.Performing.{told_of, minted_by, fault_of, mints, by_calls, performed, Did};
