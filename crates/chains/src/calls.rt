@@ -4,7 +4,7 @@ ghost use Rattle.std.specs.Option.{unwrap_or};
 ghost use Rattle.chains.specs.Tables.{table, spot, found, put_table, put_answer, drop_table};
 
 use crate::FREE;
-use crate::cells::{after, link, set_key, set_value, unlink, value_to};
+use crate::cells::{after, link, set_key, set_value, unlink, value_of};
 use crate::node::Node;
 use crate::walk::walk;
 use stores::fault::StoreFault;
@@ -18,7 +18,11 @@ pub fn get_in<K: Key, V: Copy>(nodes: &[Node<K, V>], k: &K, place: &mut V) -> bo
     let Some(spot) = walk(nodes, k) else {
         return false;
     };
-    value_to(nodes, spot.at as usize, place)
+    let Some(value) = value_of(nodes, spot.at as usize) else {
+        return false;
+    };
+    *place = value;
+    true
 }
 
 pub fn put_in<K: Key + Copy, V: Copy>(

@@ -30,19 +30,14 @@ pub(crate) fn has_key<K: Key, V>(nodes: &[Node<K, V>], at: usize, k: &K) -> bool
     nodes.get(at).is_some_and(|node| node.key.same(k))
 }
 
-// Writes the value of a record to the place, if there is that record.
-pub(crate) fn value_to<K, V: Copy>(nodes: &[Node<K, V>], at: usize, place: &mut V) -> bool
-    ensures answer { result ≡ is_some (slice_get (table nodes.now).values at) }
-    ensures place { place.new ≡ unwrap_or (slice_get (table nodes.now).values at) place.old }
+// The value of a record, if there is that record.
+pub(crate) fn value_of<K, V: Copy>(nodes: &[Node<K, V>], at: usize) -> Option<V>
+    ensures { result ≡ slice_get (table nodes.now).values at }
 {
-    let Some(node) = nodes.get(at) else {
-        return false;
-    };
-    *place = node.value;
-    true
+    nodes.get(at).map(|node| node.value)
 }
 
-// These three differ in the field that they write, and one function over a closure is no plainer; they write by index, since of a slice's `get_mut` a proof learns the length and no element.
+// These three differ in the field that they write: one function over a closure that writes would want the closure's clauses in its contract. They write by index, since of a slice's `get_mut` a proof learns the length and no element.
 #[tactic(auto, using(crate::proofs::Columns::writes))]
 pub(crate) fn set_next<K, V>(nodes: &mut [Node<K, V>], at: usize, to: u16)
     ensures links { (table nodes.new).links ≡ slice_set (table nodes.old).links at to }

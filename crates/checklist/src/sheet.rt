@@ -22,7 +22,7 @@ pub fn check_name(template: &Template, line: &[u8]) -> Result<u64, Refusal>
     template.validate(line).map_err(Refusal::from)
 }
 
-// The counts over the lines of a text.
+// The counts over the lines of a text; one pass for both.
 pub fn count_names(template: &Template, text: &[u8]) -> Counts
     ensures { result ≡ counts_of (form template.now) (pieces 10 text.now) }
 {

@@ -8,7 +8,7 @@ use names::fault::{Layer, Refusal, TemplateFault};
 
 // The opening line's template is none; the register refuses; a line fits no form, with the place of its first wrong word; one line too many; too few bytes free for output;
 // an input that is too long.
-#[derive(Clone, Copy)]
+#[derive(Clone, Copy, PartialEq, Eq, Debug)]
 pub enum CommandFault {
     Template(TemplateFault),
     Register(RegisterFault),

@@ -4,7 +4,7 @@ ghost use Rattle.commands.specs.Words.{pick, heads, openings, turns, edits, elem
 
 use stores::text::Element;
 
-// A kind of word, by the table of its words.
+// A kind of word, by the table of its words. By the rules the words are string literals as cases, so each kind has a `match`.
 pub(crate) trait Keyword: Sized {
     ghost table: { List (List ℕ × Self) };
 
@@ -54,7 +54,7 @@ impl Keyword for Head {
     }
 }
 
-// The first word of an opening line.
+// The first word of an opening line: one case, so that it is read as the other kinds are.
 #[derive(Clone, Copy)]
 pub enum Opening {
     Template,

@@ -37,7 +37,7 @@ impl<'a> Words<'a> {
         Ok(Words { line, from: 0 })
     }
 
-    // The next word, which must be there and must not be empty.
+    // The next word, which must be there and must not be empty. Readers ask themselves what it stands for: a function over a closure would want the closure's clauses.
     pub(crate) fn next_word(&mut self) -> Result<Word<'a>, CommandFault>
         ensures word { taken result self.new ≡ next self.old.line.now (ahead self.old) }
         ensures line { self.new.line.now ≡ self.old.line.now }

@@ -39,7 +39,7 @@ impl<'a> Call<'a> {
     }
 }
 
-// An accepted call on a name answers the name's number; a tick answers the clock.
+// An accepted call on a name answers the name's number; a tick answers the clock. Eight cases, and no Result of seven: histories are read case by case.
 #[derive(Clone, Copy)]
 pub enum Answer {
     Minted(u64),

@@ -7,7 +7,7 @@ use names::fault::{Layer, NameFault, Refusal};
 use sources::fault::SourceFault;
 use stores::fault::StoreFault;
 
-#[derive(Clone, Copy)]
+#[derive(Clone, Copy, PartialEq, Eq, Debug)]
 pub enum RegisterFault {
     Name(NameFault),
     Source(SourceFault),

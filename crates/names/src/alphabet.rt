@@ -4,7 +4,7 @@ ghost use Rattle.names.specs.Alphabet.{char_of, value_in};
 
 const ALPHABET: &[u8; 29] = b"0123456789bcdfghjkmnpqrstvwxz";
 
-// The value of a character, if it is one of the 29.
+// The value of a character, if it is one of the 29: a match, since each byte of each name comes by here, and a search of the table would take 29 steps.
 pub(crate) fn value(b: u8) -> Option<u8>
     ensures { result ≡ value_in b }
 {

@@ -11,7 +11,7 @@ pub fn check_character(text: &[u8]) -> u8
 {
     let mut sum: usize = 0;
     for (i, b) in text.iter().enumerate() {
-        // Modulo 29 at each turn, so that no text is too long for the sum.
+        // By the rules the place is counted here. Modulo 29 at each turn, so that no text is too long for the sum.
         let place = (i + 1) % 29;
         sum = (sum + place * weight(*b)) % 29;
     }

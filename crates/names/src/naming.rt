@@ -28,7 +28,7 @@ fn closed(text: Short<28>) -> Short<28>
 }
 
 impl Parts<'_> {
-    // How many names there are.
+    // How many names there are. (`product` over the mask was tried and does not close: what it asks of each partial product is no bound that the map keeps.)
     pub(crate) fn total(&self) -> u64
         ensures value { result ≡ Naming.total self.now.mask.now }
         ensures small { result ≤ 29 ^ 8 }

@@ -45,7 +45,7 @@ pub fn run_generator<C: Chooser, T: Store<TextKey, Text>>(
 }
 
 // A run over a new roll, with the fault of its list, if there is one; the roll is then empty.
-// It answers what `run_in` does and the fault beside it: a struct of the three would name parts that each clause says in its own words.
+// It answers what `run_in` does and the fault beside it, for a wrong list too: so it is no `Result`.
 pub fn run_roll<'a, T: Store<TextKey, Text>>(
     room: Room,
     template: Template,

@@ -14,7 +14,8 @@ use std::alloc::{AllocError, Global};
 use stores::store::Store;
 use stores::text::TextKey;
 
-// Makes a register over a source and a store, and serves the calls in their order.
+// Makes a register over a source and a store, and serves the calls in their order. That the store is sound and empty is a premise here and below: a
+// run takes any store. Room, source, store, calls and answers come apart, since each goes another way: into the register, or in and out of its calls.
 // It does not call `run_in`, which writes over answers that are there: the list would have to be filled twice.
 pub fn run<S: Source + Drop, T: Store<TextKey, Text> + Drop>(
     heap: Global,
@@ -55,7 +56,7 @@ pub fn run_in<S: Source, T: Store<TextKey, Text>>(
     let mut reg = Register::open(room, source, texts);
     let served = calls.len().min(out.len());
     for (i, call) in calls[..served].iter().enumerate() {
-        // By index: over `out.iter_mut().zip(calls)` it was tried and does not close, since nothing is known of a slice after an adapter of its `iter_mut`.
+        // By index: over `out.iter_mut().zip(calls)` it was tried and does not close, since nothing is known of a slice after a `zip` of its `iter_mut`.
         out[i] = reg.serve(call);
     }
     (reg, served)

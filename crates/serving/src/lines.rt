@@ -17,7 +17,7 @@ use stores::text::TextKey;
 use texts::output::Output;
 use texts::pieces::Pieces;
 
-// Gives an open session lines.
+// Gives an open session lines. (That the output has room for them, here and in serve.rt, is a fact of the output and the lines left together; no type holds both.)
 pub(crate) fn answer_lines<S: Source, T: Store<TextKey, Text>, U: Store<TallyKey, u64>>(
     session: OpenSession,
     register: &mut Register<S, T>,

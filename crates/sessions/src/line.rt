@@ -119,7 +119,7 @@ fn hear<S: Source, T: Store<TextKey, Text>, U: Store<TallyKey, u64>>(
 
 impl OpenSession {
     // Counts a line that was read, or was not, and answers it. Line 65,536, and a line that finds too few bytes free, are not even counted.
-    // Register and tallies are two parameters: a struct of the two loans would want clauses, in each contract, that both loans stay the same.
+    // Register, tallies and output are parameters: a struct of the loans would want clauses, in each contract, that each loan stays the same.
     pub fn frame<S: Source, T: Store<TextKey, Text>, U: Store<TallyKey, u64>>(
         self,
         register: &mut Register<S, T>,

@@ -1,4 +1,4 @@
-// The map of the live subcounters: five words, lowest bit first.
+// The map of the live subcounters: five words, lowest bit first, as the rules have it.
 ghost use Rattle.std.specs.Prelude.{◌≡◌, ℕ, ◌+◌, ◌*◌, ◌<◌, ◌≤◌, min, length, slice_index};
 ghost use Rattle.sources.specs.Maps.{bits_from, live_in, run, lacks};
 

@@ -8,7 +8,7 @@ use names::template::Template;
 pub mod calls;
 mod look;
 
-// The first `used` numbers are given. No number stands twice, and each is below the template's total.
+// The first `used` numbers are given: a place, and no two lists, since the list is lent whole. No number stands twice, and each is below the template's total.
 #[derive(Clone, Copy)]
 pub struct Roll<'a> {
     template: Template,

@@ -4,7 +4,7 @@ ghost use Rattle.texts.specs.Short.{within};
 
 use std::marker::Model;
 
-// Past the length stand zeros.
+// Past the length stand zeros. (The kit's vectors in place are not `Copy`, and names are copied.)
 #[derive(Clone, Copy)]
 pub struct Short<const N: usize> {
     bytes: [u8; N],

@@ -30,7 +30,7 @@ impl Lists {
         }
     }
 
-    // The first numbers of returned come aside, as many as are said.
+    // The first numbers of returned come aside, as many as are said; one by one, since a `drain` would hold the lists that they come into.
     pub(crate) fn pass_returned(&mut self, many: usize)
         requires { many ≤ vec_len self.old.returned }
         ensures after { (m : Machine) → over m self.new ≡ passed (over m self.old) many }

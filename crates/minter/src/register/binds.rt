@@ -14,13 +14,11 @@ use sources::source::Source;
 use stores::store::Store;
 use stores::text::{Element, TextKey};
 
-// Number and element come apart in three of these, as in the machine's definitions: with a `TextKey` for both the proof of `put_text` did not close.
 impl<S: Source, T: Store<TextKey, Text>> Register<S, T> {
-    fn has_text_under(&self, n: u64, element: Element) -> bool
-        ensures { T.Store.sound self.now.texts → result ≡ text_under (meaning S.Source.stock T.Store.pairs T.Store.capacity self.now) n element }
+    fn has_text_under(&self, key: TextKey) -> bool
+        ensures { T.Store.sound self.now.texts → result ≡ text_under (meaning S.Source.stock T.Store.pairs T.Store.capacity self.now) key.number key.element }
     {
         let mut place = Text::new();
-        let key = TextKey { number: n, element };
         self.texts.get(&key, &mut place)
     }
 
@@ -30,7 +28,12 @@ impl<S: Source, T: Store<TextKey, Text>> Register<S, T> {
     {
         [Element::Who, Element::What, Element::When, Element::Where]
             .iter()
-            .any(|element| self.has_text_under(n, *element))
+            .any(|element| {
+                self.has_text_under(TextKey {
+                    number: n,
+                    element: *element,
+                })
+            })
     }
 
     // Puts a text under n and an element, where the store takes it.
@@ -67,14 +70,13 @@ impl<S: Source, T: Store<TextKey, Text>> Register<S, T> {
         Ok(n)
     }
 
-    // Removes the text under n and an element, and says whether there was one.
-    fn drop_text(&mut self, n: u64, element: Element) -> bool
-        ensures after { T.Store.sound self.old.texts → meaning S.Source.stock T.Store.pairs T.Store.capacity self.new ≡ text_dropped (meaning S.Source.stock T.Store.pairs T.Store.capacity self.old) n element }
-        ensures answer { T.Store.sound self.old.texts → result ≡ text_under (meaning S.Source.stock T.Store.pairs T.Store.capacity self.old) n element }
+    // Removes the text under a key, and says whether there was one.
+    fn drop_text(&mut self, key: TextKey) -> bool
+        ensures after { T.Store.sound self.old.texts → meaning S.Source.stock T.Store.pairs T.Store.capacity self.new ≡ text_dropped (meaning S.Source.stock T.Store.pairs T.Store.capacity self.old) key.number key.element }
+        ensures answer { T.Store.sound self.old.texts → result ≡ text_under (meaning S.Source.stock T.Store.pairs T.Store.capacity self.old) key.number key.element }
         ensures refusal { T.Store.sound self.old.texts → result ≡ false → self.new ≡ self.old }
         ensures store { T.Store.sound self.old.texts → T.Store.sound self.new.texts }
     {
-        let key = TextKey { number: n, element };
         self.texts.drop_pair(&key)
     }
 
@@ -88,7 +90,7 @@ impl<S: Source, T: Store<TextKey, Text>> Register<S, T> {
     {
         let n = self.number(name)?;
         let element = element.ok_or(RegisterFault::ElementWord)?;
-        if self.drop_text(n, element) {
+        if self.drop_text(TextKey { number: n, element }) {
             Ok(n)
         } else {
             Err(RegisterFault::NoText)

@@ -26,7 +26,8 @@ pub enum Part {
     Closed,
 }
 
-// How far a text is read: the part, the bytes of this part so far, and the shoulder's length once the dot is read.
+// How far a text is read: the part, the bytes of this part so far, and the shoulder's length once the dot is read. The reader matches on part and class
+// together, so the counts stand beside the part and not in its cases.
 #[derive(Clone, Copy)]
 pub struct Reader {
     pub part: Part,

@@ -16,7 +16,7 @@ use names::template::Template;
 
 impl<'a> Roll<'a> {
     // A roll over the numbers, none given; where they have a wrong one, an empty roll beside its fault.
-    // A pair and no `Result`, by the project's rules: a caller has a roll to go on with either way.
+    // A pair and no `Result`: it promises a roll in every case, and `run_roll` serves its calls over the empty one too.
     pub fn new(template: Template, numbers: &'a [u64]) -> (Roll<'a>, Option<SourceFault>)
         ensures made { roll_stock result.0 ≡ new_stock template (accepted (first_wrong (total_of template) [] numbers.now) numbers.now) }
         ensures fault { result.1 ≡ refusal_at (first_wrong (total_of template) [] numbers.now) }
