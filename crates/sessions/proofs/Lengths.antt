@@ -1,5 +1,5 @@
 -- How many bytes the report of a command has. Assumes nothing.
-use Rattle.std.proofs.Common.{◌≡◌, ℕ, zero, suc, ◌*◌, ◌^◌, ◌<◌, ◌≤◌, Bool, true, false, cond, not, ◌&&◌, leb, List, [], ◌++◌, length, is_ok, IfOk, Some, None, Ok, Err, Option, Result, unwrap_or, sym, ap, subst, append-nil, arith, length-append, length-take}
+use Rattle.std.proofs.Common.{◌≡◌, ℕ, zero, suc, ◌*◌, ◌^◌, ◌<◌, ◌≤◌, Bool, true, false, cond, not, ◌&&◌, leb, List, [], ◌++◌, length, is_ok, IfOk, Some, None, Ok, Err, Option, Result, unwrap_or, sym, ap, subst, append-nil, arith, length-append}
 use Rattle.commands.proofs.Brief.{Brief, brief}
 use Rattle.commands.specs.Forms.{Said, mint, hold_set, hold_release, queue, tick, bind_set, bind_purge, fetch, validate}
 use Rattle.commands.specs.Forms.{said as meant, said_read}
