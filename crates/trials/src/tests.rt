@@ -71,14 +71,10 @@ impl<S: Store<TextKey, u64>> Both<S> {
                 _ => self.put(rt, code, i)?,
             }
         }
-        self.get_all(rt);
-        Ok(())
-    }
-
-    fn get_all(&self, rt: &impl Abort) {
         for code in 0..24 {
             self.get(rt, code);
         }
+        Ok(())
     }
 }
 
