@@ -1,4 +1,5 @@
 pub mod Brief
+pub mod Digits
 pub mod Fairness
 pub mod Numbers
 pub mod Places
@@ -6,3 +7,4 @@ pub mod Refusals
 pub mod Spelling
 pub mod Tables
 pub mod Typing
+pub mod Whole

@@ -1,9 +1,10 @@
 -- The words from a place on: the first, and those after it. Assumes nothing.
-use Rattle.std.proofs.Common.{◌≡◌, ℕ, ◌+◌, ◌-◌, ◌<◌, ◌≤◌, true, false, cond, eqb, List, [], ◌∷◌, ◌++◌, length, take, drop, Ok, sym, refl, ap, ◌∙◌, append_assoc, length-append, arith}
+use Rattle.std.proofs.Common.{◌≡◌, ℕ, suc, ◌+◌, ◌-◌, ◌<◌, ◌≤◌, true, false, cond, eqb, ltb, List, [], ◌∷◌, ◌++◌, length, take, drop, Ok, sym, refl, ap, ◌∙◌, append_assoc, length-append, arith}
 use Rattle.commands.specs.Ahead.{on}
 use Rattle.commands.specs.Forms.{next, wrong}
 use Rattle.commands.specs.Words.{Word, words, onto}
-use Rattle.std.proofs.lemmas.Bool.{le-leb, lt-leb, eq-eqb, ne_eqb}
+use Rattle.std.proofs.lemmas.Bool.{le-leb, lt-leb, lt-ltb, eq-eqb, ne_eqb}
+use Rattle.std.proofs.lemmas.Bool.Decides.{nat_tests}
 use Rattle.std.proofs.lemmas.List.{drop_at, length-take-le, take-append-drop}
 use Rattle.texts.proofs.Cuts.{take_upto}
 use Rattle.texts.specs.Pieces.{upto}
@@ -19,6 +20,19 @@ words_first at (b ∷ bs) =
     elim (eqb b 32) as (λ v. cond v (record { place = at; text = [] } ∷ words (at + 1) bs) (onto at b (words (at + 1) bs)) ≡ record { place = at; text = cond v [] (b ∷ upto 32 bs) } ∷ cond v (words (at + 1) bs) (after (at + 1) bs)) [
       | true ↦ refl
       | false ↦ ap (onto at b) (words_first (at + 1) bs)
+    ]
+
+-- they are the words after the first bytes and the space that ends them
+pub after_first : (at : ℕ) (bs : List ℕ) → after at bs ≡ cond (ltb (length (upto 32 bs)) (length bs)) (words (at + suc (length (upto 32 bs))) (drop (suc (length (upto 32 bs))) bs)) []
+after_first at [] = refl
+after_first at (b ∷ bs) =
+    elim (eqb b 32) as (λ v. cond v (words (at + 1) bs) (after (at + 1) bs) ≡ cond (ltb (length (cond v [] (b ∷ upto 32 bs))) (suc (length bs))) (words (at + suc (length (cond v [] (b ∷ upto 32 bs)))) (drop (length (cond v [] (b ∷ upto 32 bs))) bs)) []) [
+      | true ↦ rw (lt-ltb 0 (suc (length bs)) (omega arith)) refl
+      | false ↦
+          let n = length (upto 32 bs) in
+          let test : ltb n (length bs) ≡ ltb (suc n) (suc (length bs)) = grind (arith, nat_tests) in
+          let far : at + 1 + suc n ≡ at + suc (suc n) = omega arith in
+          after_first (at + 1) bs ∙ (λ i. cond (test i) (words (far i) (drop (suc n) bs)) [])
     ]
 
 -- from past the line's end on there is no word

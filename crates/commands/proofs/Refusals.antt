@@ -13,8 +13,9 @@ use Rattle.commands.specs.declared.word.Head.{Head}
 use Rattle.commands.specs.declared.word.Head.TheVariants as head
 use Rattle.commands.specs.declared.word.Opening.TheVariants as first
 use Rattle.commands.specs.declared.word.Turn.TheVariants as turn
-use Rattle.commands.proofs.Spelling.{AllPlain, plain_words, known_ok, spoken_read, opening_read}
-use Rattle.commands.proofs.Typing.{full, words_before, words_last, spelt_spoken, spelt_opening}
+use Rattle.commands.proofs.Spelling.{meant_ok, spoken_read, opening_read}
+use Rattle.commands.proofs.Typing.{meant_read, words_before, words_last, spelt_spoken, spelt_opening}
+use Rattle.commands.proofs.Whole.{AllPlain, plain_words}
 use Rattle.std.proofs.lemmas.Option.{none-some}
 use Rattle.std.proofs.lemmas.Bool.{eqb-true, eqb-false, ltb-true, ltb-false}
 use Rattle.texts.specs.Pieces.{upto}
@@ -61,15 +62,15 @@ module _ {W X : Type 0} (meaning : List ℕ → Option W) (g : W → Reader X) w
       lives line (w ∷ ws) e =
           let r = l.2 line ws (cc) in
           let same : w.text ≡ t = cc in
-          (r.0, rw (full w.text (omega (arith, some, ap length same)), ap meaning same ∙ m) r.1)
+          (r.0, meant_read meaning line w ws (λ x ws. g x line ws) y (omega (arith, some, ap length same)) (ap meaning same ∙ m) ∙ r.1)
 
   known_at : (t : List ℕ) (more : List (List ℕ)) (line : List ℕ) (ws : List Word) (x : X) → texts ws ≡ t ∷ more → by_known line ws ≡ Ok x
       → (y : W) × (rest : List Word) × (texts rest ≡ more) × (meaning t ≡ Some y) × (0 < length t) × (g y line rest ≡ Ok x)
-  known_at t more line [] x e r = absurd (cc)
-  known_at t more line (w ∷ ws) x e r =
-      let k = known_ok meaning line w ws (λ x ws. g x line ws) x r in
-      let same : w.text ≡ t = cc in
-      (k.0, ws, cc, ap meaning (sym same) ∙ k.1, omega (arith, k.2, ap length same), k.3)
+  known_at t more line ws x e r =
+      let k = meant_ok meaning line ws (λ x ws. g x line ws) x r in
+      let all : texts (k.0 ∷ k.1) ≡ t ∷ more = sym (ap (λ ws. texts ws) k.3) ∙ e in
+      let same : k.0.text ≡ t = cc in
+      (k.2, k.1, cc, ap meaning (sym same) ∙ k.4, omega (arith, k.6, ap length same), k.5)
 
   known_fails : (t : List ℕ) (y : W) → meaning t ≡ Some y → (pre : List (List ℕ)) → Fails (g y) pre → Fails by_known (t ∷ pre)
   known_fails t y m pre f line ws more x e r =
@@ -208,7 +209,7 @@ module _ {X : Type 0} (f : Reader X) (Is : List ℕ → Type 0) (good : Good f)
   placed : (line : List ℕ) (fault : CommandFault) → f line (words 0 line) ≡ Err fault → (at : ℕ) × (fault ≡ Line at) × (Wrong Is line at ⊎ Unfinished Is line at)
   placed line fault e =
       let s = good.stops line (words 0 line) fault e in
-      let plain = plain_words line in
+      let plain = plain_words 0 line in
       elim s.2 [
         | inl a ↦
             let p = plain_parts a.before a.word a.after (subst (λ (ws : List Word). AllPlain (texts ws)) a.words_are plain) in

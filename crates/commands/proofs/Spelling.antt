@@ -1,6 +1,6 @@
 -- A line that is read is a fair command typed out. Assumes nothing.
-use Rattle.std.proofs.Common.{◌≡◌, ℕ, ◌+◌, ◌<◌, Bool, true, false, cond, eqb, List, [], ◌∷◌, ◌++◌, map, length, drop, Some, None, Ok, Err, codes, Option, Result, sym, refl, ap, ◌∙◌, subst, inl, inr, append-nil, append_assoc, length-append, arith}
-use Rattle.commands.specs.Forms.{Said, bind_set, then, known, then_word, then_known, done, held_by, bound_by, form, spoken, opening}
+use Rattle.std.proofs.Common.{◌≡◌, ℕ, ◌<◌, Bool, true, false, cond, eqb, List, [], ◌∷◌, ◌++◌, map, length, drop, Some, None, Ok, Err, ◌⊎◌, codes, Option, Result, sym, refl, ap, ◌∙◌, subst, inl, inr, append-nil, append_assoc, arith}
+use Rattle.commands.specs.Forms.{Said, queue, bind_set, then, next, rest, known, then_word, then_known, done, held_by, bound_by, form, spoken, opening}
 use Rattle.commands.specs.Numbers.{number, count, delay}
 use Rattle.commands.specs.Spelling.{with_spaces, Spelt, Worded, Fair}
 use Rattle.commands.specs.Words.{Word, words, texts, pick, heads, openings, turns, edits, elements}
@@ -13,117 +13,86 @@ use Rattle.commands.specs.declared.word.Head.TheVariants as head
 use Rattle.commands.specs.declared.word.Turn.{Turn}
 use Rattle.commands.specs.declared.word.Turn.TheVariants as turn
 use Rattle.commands.proofs.Numbers.{number_ok, range_ok, delay_ok}
-use Rattle.commands.proofs.Places.{words_first, after}
-use Rattle.std.proofs.lemmas.Bool.{eqb-true, eqb-false}
-use Rattle.std.proofs.lemmas.List.{drop_at}
+use Rattle.commands.proofs.Whole.{whole, Along, along, Plain, plain_words}
+use Rattle.std.proofs.lemmas.Bool.{eqb-false}
 use Rattle.std.proofs.lemmas.Slice.Eq.{bytes_eq-Decides}
 use Rattle.std.specs.Str.{bytes_eq}
-use Rattle.texts.specs.Pieces.{upto}
 
--- where each word begins, the line goes on with it and with the words after it; no word has a space in it
-abbrev pub Along : List ℕ → List Word → Type 0
-Along line [] = Unit {0}
-Along line (w ∷ ws) = (drop w.place line ≡ with_spaces (texts (w ∷ ws))) × (upto 32 w.text ≡ w.text) × Along line ws
+-- what a part of a form gives where the whole is read
+pub then_ok : {X Y : Type 0} (r : Result X CommandFault) (f : X → Result Y CommandFault) (y : Y) → then r f ≡ Ok y → (x : X) × (r ≡ Ok x) × (f x ≡ Ok y)
+then_ok (Ok x) f y e = (x, refl, e)
+then_ok (Err z) f y e = absurd (cc)
 
-along_on : (front bs : List ℕ) → Along (front ++ bs) (words (length front) bs)
-along_on front [] = (drop_at front [] (length front) refl, refl, tt)
-along_on front (b ∷ bs) =
-    let at = length front in
-    let line = front ++ (b ∷ bs) in
-    let u = upto 32 bs in
-    let more = after (at + 1) bs in
-    let longer = front ++ (b ∷ []) in
-    let far : length longer ≡ at + 1 = length-append front (b ∷ []) in
-    let same : longer ++ bs ≡ line = append_assoc front (b ∷ []) bs in
-    let ih = rw (far, same, words_first (at + 1) bs) at (along_on longer bs) in
-    let here : drop at line ≡ b ∷ bs = drop_at front (b ∷ bs) at refl in
-    let on : bs ≡ with_spaces (u ∷ texts more) = sym (ap (drop (at + 1)) (sym same) ∙ drop_at longer bs (at + 1) far) ∙ ih.0 in
-    rw (words_first (at + 1) bs)
-    ((elim (eqb b 32) as (λ v. eqb b 32 ≡ v → Along line (cond v (record { place = at; text = [] } ∷ (record { place = at + 1; text = u } ∷ more)) (record { place = at; text = b ∷ u } ∷ more))) [
-      | true ↦ λ e. (here ∙ (λ i. eqb-true b 32 e i ∷ on i), refl, ih)
-      | false ↦ λ e. (here ∙ ap (λ l. b ∷ l) on, rw (e, ih.1), ih.2)
-    ]) refl)
-
-pub along : (line : List ℕ) → Along line (words 0 line)
-along line = along_on [] line
-
-abbrev pub AllPlain : List (List ℕ) → Type 0
-AllPlain [] = Unit {0}
-AllPlain (t ∷ ts) = (upto 32 t ≡ t) × AllPlain ts
-
-pub plain_words : (line : List ℕ) → AllPlain (texts (words 0 line))
-plain_words line = go (words 0 line) (along line)
+pub next_ok : (line : List ℕ) (ws : List Word) (p : Word × List Word) → next line ws ≡ Ok p → (ws ≡ p.0 ∷ p.1) × (0 < length p.0.text)
+next_ok line [] p e = absurd (cc)
+next_ok line (w ∷ ws) p e = go (eqb (length w.text) 0) refl e
   where
-    go : (ws : List Word) → Along line ws → AllPlain (texts ws)
-    go [] a = tt
-    go (w ∷ ws) a = (a.1, go ws a.2)
+    go : (v : Bool) → eqb (length w.text) 0 ≡ v → cond v (Err (Line w.place)) (Ok (w, ws)) ≡ Ok p → (w ∷ ws ≡ p.0 ∷ p.1) × (0 < length p.0.text)
+    go true s h = absurd (cc)
+    go false s h =
+        let same : (w, ws) ≡ p = cc in
+        let some : 0 < length w.text = omega (arith, eqb-false (length w.text) 0 s) in
+        (ap (λ q. q.0 ∷ q.1) same, subst (λ (q : Word × List Word). 0 < length q.0.text) same some)
+
+pub done_ok : {X : Type 0} (ws : List Word) (x y : X) → done ws x ≡ Ok y → (ws ≡ []) × (x ≡ y)
+done_ok [] x y e = (refl, cc)
+done_ok (w ∷ ws) x y e = absurd (cc)
+
+pub known_ok : {X : Type 0} (o : Option X) (w : Word) (x : X) → known o w ≡ Ok x → o ≡ Some x
+known_ok None w x e = absurd (cc)
+known_ok (Some z) w x e = cc
+
+pub rest_ok : (line : List ℕ) (ws : List Word) (t : List ℕ) → rest line ws ≡ Ok t → (w : Word) × (more : List Word) × (ws ≡ w ∷ more) × (drop w.place line ≡ t)
+rest_ok line [] t e = absurd (cc)
+rest_ok line (w ∷ ws) t e = (w, ws, refl, cc)
+
+pub word_ok : {X : Type 0} (line : List ℕ) (ws : List Word) (f : Word → List Word → Result X CommandFault) (y : X) → then_word line ws f ≡ Ok y
+    → (w : Word) × (more : List Word) × (ws ≡ w ∷ more) × (f w more ≡ Ok y) × (0 < length w.text)
+word_ok line ws f y e =
+    let p = then_ok (next line ws) (λ p. f p.0 p.1) y e in
+    let n = next_ok line ws p.0 p.1 in
+    (p.0.0, p.0.1, n.0, p.2, n.1)
+
+pub meant_ok : {W X : Type 0} (meaning : List ℕ → Option W) (line : List ℕ) (ws : List Word) (f : W → List Word → Result X CommandFault) (y : X) → then_known meaning line ws f ≡ Ok y
+    → (w : Word) × (more : List Word) × (x : W) × (ws ≡ w ∷ more) × (meaning w.text ≡ Some x) × (f x more ≡ Ok y) × (0 < length w.text)
+meant_ok meaning line ws f y e =
+    let p = word_ok line ws (λ w ws. then (known (meaning w.text) w) (λ x. f x ws)) y e in
+    let q = then_ok (known (meaning p.0.text) p.0) (λ x. f x p.1) y p.3 in
+    (p.0, p.1, q.0, p.2, known_ok (meaning p.0.text) p.0 q.0 q.1, q.2, p.4)
+
+-- the next of some words without a space in them
+fair_on : {ws more : List Word} {w : Word} → ws ≡ w ∷ more → 0 < length w.text → Plain ws → Worded w.text × Plain more
+fair_on e some p = let q = subst Plain e p in ((some, q.0), q.1)
 
 -- a line's first texts, and the words after them
 pub record At (line : List ℕ) (first : List (List ℕ)) (ws : List Word) : Type 0 where
-  spelt : line ≡ with_spaces (first ++ texts ws)
-  along : Along line ws
+  pub spelt : line ≡ with_spaces (first ++ texts ws)
 
-start : (line : List ℕ) → At line [] (words 0 line)
-start line = let first = words_first 0 line in let a = subst (Along line) first (along line) in record { spelt = a.0 ∙ ap (λ ws. with_spaces (texts ws)) (sym first); along = along line }
+at_on : {line : List ℕ} {first : List (List ℕ)} {ws more : List Word} {w : Word} → ws ≡ w ∷ more → At line first ws → At line (first ++ (w.text ∷ [])) more
+at_on {line} {first} {ws} {more} {w} e a = record { spelt = (subst (At line first) e a).spelt ∙ ap with_spaces (sym (append_assoc first (w.text ∷ []) (texts more))) }
 
--- what a part of a form gives where the whole is read
-pub known_ok : {W X : Type 0} (meaning : List ℕ → Option W) (line : List ℕ) (w : Word) (ws : List Word) (f : W → List Word → Result X CommandFault) (y : X) → then_known meaning line (w ∷ ws) f ≡ Ok y
-    → (x : W) × (meaning w.text ≡ Some x) × (0 < length w.text) × (f x ws ≡ Ok y)
-known_ok {W} {X} meaning line w ws f y e = go (eqb (length w.text) 0) refl e
+at_end : {line : List ℕ} {first : List (List ℕ)} {ws : List Word} → ws ≡ [] → At line first ws → line ≡ with_spaces first
+at_end {line} {first} e a = (subst (At line first) e a).spelt ∙ ap with_spaces (append-nil first)
+
+-- a word that stands for something in a table is one of its words, and so the name of that
+abbrev pub Row : {A : Type 0} → List (List ℕ × A) → List ℕ → A → Type 0
+Row [] t x = ⊥
+Row (row ∷ rows) t x = ((t ≡ row.0) × (row.1 ≡ x)) ⊎ Row rows t x
+
+pub picked : {A : Type 0} (rows : List (List ℕ × A)) (t : List ℕ) (x : A) → pick rows t ≡ Some x → Row rows t x
+picked [] t x e = cc
+picked (row ∷ rows) t x e = go (picked rows t x) (bytes_eq t row.0) refl e
   where
-    go : (v : Bool) → eqb (length w.text) 0 ≡ v → then {X = Word × List Word} (cond v (Err (Line w.place)) (Ok (w, ws))) (λ p. then (known (meaning p.0.text) p.0) (λ x. f x p.1)) ≡ Ok y → (x : W) × (meaning w.text ≡ Some x) × (0 < length w.text) × (f x ws ≡ Ok y)
-    go true z h = absurd (cc)
-    go false z h = at (meaning w.text) refl h
-      where
-        at : (o : Option W) → meaning w.text ≡ o → then (known o w) (λ x. f x ws) ≡ Ok y → (x : W) × (meaning w.text ≡ Some x) × (0 < length w.text) × (f x ws ≡ Ok y)
-        at None m h = absurd (cc)
-        at (Some x) m h = (x, m, omega (arith, eqb-false (length w.text) 0 z), h)
+    go : (pick rows t ≡ Some x → Row rows t x) → (v : Bool) → bytes_eq t row.0 ≡ v → cond v (Some row.1) (pick rows t) ≡ Some x → Row (row ∷ rows) t x
+    go later true s h = inl ((bytes_eq-Decides t row.0).0 s, cc)
+    go later false s h = inr (later h)
 
-module _ {X : Type 0} (line : List ℕ) (first : List (List ℕ)) (y : X) where
-  -- the next word, which means something, and the words after it
-  record Known {W : Type 0} (meaning : List ℕ → Option W) (f : W → List Word → Result X CommandFault) : Type 0 where
-    word : Word
-    more : List Word
-    means : W
-    meant : meaning word.text ≡ Some means
-    fair : Worded word.text
-    at : At line (first ++ (word.text ∷ [])) more
-    goes_on : f means more ≡ Ok y
+named : {A : Type 0} (name : A → List ℕ) (rows : List (List ℕ × A)) (t : List ℕ) (x : A) → map (λ row. row.0) rows ≡ map (λ row. name row.1) rows → Row rows t x → t ≡ name x
+named name [] t x n r = absurd r
+named name (row ∷ rows) t x n (inl r) = let same : row.0 ≡ name row.1 = cc in r.0 ∙ same ∙ ap name r.1
+named name (row ∷ rows) t x n (inr r) = named name rows t x (cc) r
 
-  meant_at : {W : Type 0} (meaning : List ℕ → Option W) (ws : List Word) (f : W → List Word → Result X CommandFault) → At line first ws → then_known meaning line ws f ≡ Ok y → Known meaning f
-  meant_at meaning [] f a e = absurd (cc)
-  meant_at meaning (w ∷ ws) f a e =
-      let k = known_ok meaning line w ws f y e in
-      let spelt = a.spelt ∙ ap with_spaces (sym (append_assoc first (w.text ∷ []) (texts ws))) in
-      record { word = w; more = ws; means = k.0; meant = k.1; fair = (k.2, a.along.1); at = record { spelt = spelt; along = a.along.2 }; goes_on = k.3 }
-
-  -- the next word, which means itself
-  record Next (f : List ℕ → List Word → Result X CommandFault) : Type 0 where
-    word : Word
-    more : List Word
-    fair : Worded word.text
-    at : At line (first ++ (word.text ∷ [])) more
-    goes_on : f word.text more ≡ Ok y
-
-  word_at : (ws : List Word) (f : List ℕ → List Word → Result X CommandFault) → At line first ws → then_word line ws (λ w ws. f w.text ws) ≡ Ok y → Next f
-  word_at ws f a e =
-      let k = meant_at Some ws f a e in
-      record { word = k.word; more = k.more; fair = k.fair; at = k.at; goes_on = ap (λ t. f t k.more) (let same : k.word.text ≡ k.means = cc in same) ∙ k.goes_on }
-
-  done_at : (ws : List Word) (x : X) → At line first ws → done ws x ≡ Ok y → (line ≡ with_spaces first) × (x ≡ y)
-  done_at [] x a e = (a.spelt ∙ ap with_spaces (append-nil first), cc)
-  done_at (w ∷ ws) x a e = absurd (cc)
-
--- a word that stands for something in a table is the name of that
-picked : {A : Type 0} (name : A → List ℕ) (rows : List (List ℕ × A)) (t : List ℕ) (x : A) → map (λ row. row.0) rows ≡ map (λ row. name row.1) rows → pick rows t ≡ Some x → t ≡ name x
-picked name [] t x n e = absurd (cc)
-picked name (row ∷ rows) t x n e = go (picked name rows t x (cc)) (bytes_eq t row.0) refl e
-  where
-    go : (pick rows t ≡ Some x → t ≡ name x) → (v : Bool) → bytes_eq t row.0 ≡ v → cond v (Some row.1) (pick rows t) ≡ Some x → t ≡ name x
-    go later true s h = let same = (bytes_eq-Decides t row.0).0 s in let meant : row.1 ≡ x = cc in let named : row.0 ≡ name row.1 = cc in cc
-    go later false s h = later h
-
-abbrev head_name : Head → List ℕ
+abbrev pub head_name : Head → List ℕ
 head_name head.Mint = codes "mint"
 head_name head.Hold = codes "hold"
 head_name head.Queue = codes "queue"
@@ -140,76 +109,105 @@ abbrev edit_name : Edit → List ℕ
 edit_name edit.Set = codes "set"
 edit_name edit.Purge = codes "purge"
 
--- each form, with what it takes after its first word
-abbrev Read : List ℕ → Said → Type 0
-Read line c = Spelt line c × Fair c
+-- each form, with what it takes after its first word: of words without a space a fair command, and of the rest of a line the command that is typed out; the text of `bind` is found by its place
+pub record Read (h : Head) (line : List ℕ) (ws : List Word) (c : Said) : Type 0 where
+  pub fair : Plain ws → Fair c
+  pub spelt : At line (head_name h ∷ []) ws → (h ≡ head.Bind → Along 0 line ws) → Spelt line c
 
-held_read : (t : Turn) (line name : List ℕ) → line ≡ with_spaces (codes "hold" ∷ turn_name t ∷ name ∷ []) → Worded name → Read line (held_by t name)
-held_read turn.Set line name s w = (s, w)
-held_read turn.Release line name s w = (s, w)
+held_fair : (t : Turn) (name : List ℕ) → Worded name → Fair (held_by t name)
+held_fair turn.Set name w = w
+held_fair turn.Release name w = w
 
-bound_read : (kind : Edit) (line name word : List ℕ) (ws : List Word) (c : Said) → Worded name → Worded word → At line (codes "bind" ∷ edit_name kind ∷ name ∷ word ∷ []) ws → bound_by kind line ws name word ≡ Ok c → Read line c
-bound_read edit.Set line name word [] c w v a e = absurd (cc)
-bound_read edit.Set line name word (first ∷ more) c w v a e =
+held_spelt : (t : Turn) (line name : List ℕ) → line ≡ with_spaces (codes "hold" ∷ turn_name t ∷ name ∷ []) → Spelt line (held_by t name)
+held_spelt turn.Set line name s = s
+held_spelt turn.Release line name s = s
+
+bound_fair : (kind : Edit) (line : List ℕ) (ws : List Word) (name word : List ℕ) (c : Said) → Worded name → Worded word → bound_by kind line ws name word ≡ Ok c → Fair c
+bound_fair edit.Set line ws name word c w v e =
+    let t = then_ok (rest line ws) _ c e in
+    let said : bind_set name word (pick elements word) t.0 ≡ c = cc in
+    subst Fair said (w, v)
+bound_fair edit.Purge line ws name word c w v e = subst Fair (done_ok ws _ c e).1 (w, v)
+
+bound_spelt : (kind : Edit) (line : List ℕ) (ws : List Word) (name word : List ℕ) (c : Said) → At line (codes "bind" ∷ edit_name kind ∷ name ∷ word ∷ []) ws → Along 0 line ws → bound_by kind line ws name word ≡ Ok c → Spelt line c
+bound_spelt edit.Set line [] name word c a l e = absurd (cc)
+bound_spelt edit.Set line (first ∷ more) name word c a l e =
     let text = drop first.place line in
-    let all : with_spaces (texts (first ∷ more)) ≡ text ++ [] = sym a.along.0 ∙ sym (append-nil text) in
+    let all : with_spaces (texts (first ∷ more)) ≡ text ++ [] = sym l.1 ∙ ap (λ k. drop k line) (omega arith) ∙ sym (append-nil text) in
     let said : bind_set name word (pick elements word) text ≡ c = cc in
-    subst (Read line) said ((a.spelt ∙ ap (λ l. codes "bind set " ++ (name ++ (32 ∷ (word ++ (32 ∷ l))))) all, refl), (w, v))
-bound_read edit.Purge line name word ws c w v a e = let d = done_at line _ c ws _ a e in subst (Read line) d.1 ((d.0, refl), (w, v))
+    subst (Spelt line) said (a.spelt ∙ ap (λ l. codes "bind set " ++ (name ++ (32 ∷ (word ++ (32 ∷ l))))) all, refl)
+bound_spelt edit.Purge line ws name word c a l e = let d = done_ok ws _ c e in subst (Spelt line) d.1 (at_end d.0 a, refl)
 
-form_read : (h : Head) (line : List ℕ) (ws : List Word) (c : Said) → At line (head_name h ∷ []) ws → form h line ws ≡ Ok c → Read line c
-form_read head.Mint line ws c a e =
-    let k = meant_at line _ c count ws _ a e in
-    let d = done_at line _ c k.more _ k.at k.goes_on in
-    let r = range_ok k.word.text k.means k.meant in
-    let n = number_ok k.word.text k.means r.0 in
-    subst (Read line) d.1 (d.0 ∙ ap (λ t. with_spaces (codes "mint" ∷ t ∷ [])) n.0, (r.1, r.2))
-form_read head.Hold line ws c a e =
-    let k = meant_at line _ c (pick turns) ws _ a e in
-    let p = word_at line _ c k.more _ k.at k.goes_on in
-    let d = done_at line _ c p.more _ p.at p.goes_on in
-    let t = picked turn_name turns k.word.text k.means refl k.meant in
-    subst (Read line) d.1 (held_read k.means line p.word.text (d.0 ∙ ap (λ t. with_spaces (codes "hold" ∷ t ∷ p.word.text ∷ [])) t) p.fair)
-form_read head.Queue line ws c a e =
-    let k = meant_at line _ c delay ws _ a e in
-    let p = word_at line _ c k.more _ k.at k.goes_on in
-    let d = done_at line _ c p.more _ p.at p.goes_on in
-    let n = delay_ok k.word.text k.means k.meant in
-    let spell : List ℕ → List ℕ = λ t. with_spaces (codes "queue" ∷ t ∷ p.word.text ∷ []) in
-    subst (Read line) d.1 (elim n.0 [ inl t ↦ inl (d.0 ∙ ap spell t) | inr z ↦ inr (z.0, d.0 ∙ ap spell z.1) ], (p.fair, n.1))
-form_read head.Tick line ws c a e =
-    let k = meant_at line _ c number ws _ a e in
-    let d = done_at line _ c k.more _ k.at k.goes_on in
-    let n = number_ok k.word.text k.means k.meant in
-    subst (Read line) d.1 (d.0 ∙ ap (λ t. with_spaces (codes "tick" ∷ t ∷ [])) n.0, n.1)
-form_read head.Bind line ws c a e =
-    let k = meant_at line _ c (pick edits) ws _ a e in
-    let p = word_at line _ c k.more _ k.at k.goes_on in
-    let q = word_at line _ c p.more _ p.at p.goes_on in
-    let t = picked edit_name edits k.word.text k.means refl k.meant in
-    bound_read k.means line p.word.text q.word.text q.more c p.fair q.fair (subst (λ (t : List ℕ). At line (codes "bind" ∷ t ∷ p.word.text ∷ q.word.text ∷ []) q.more) t q.at) q.goes_on
-form_read head.Fetch line ws c a e =
-    let p = word_at line _ c ws _ a e in
-    let q = word_at line _ c p.more _ p.at p.goes_on in
-    let d = done_at line _ c q.more _ q.at q.goes_on in
-    subst (Read line) d.1 ((d.0, refl), (p.fair, q.fair))
-form_read head.Validate line ws c a e =
-    let p = word_at line _ c ws _ a e in
-    let d = done_at line _ c p.more _ p.at p.goes_on in
-    subst (Read line) d.1 (d.0, p.fair)
+pub form_read : (h : Head) (line : List ℕ) (ws : List Word) (c : Said) → form h line ws ≡ Ok c → Read h line ws c
+form_read head.Mint line ws c e =
+    let k = meant_ok count line ws _ c e in
+    let d = done_ok k.1 _ c k.5 in
+    let r = range_ok (number k.0.text) k.2 k.4 in
+    let n = number_ok k.0.text k.2 r.0 in
+    let spell : List ℕ → List ℕ = λ t. with_spaces (codes "mint" ∷ t ∷ []) in
+    subst (Read head.Mint line ws) d.1 (record { fair = λ p. (r.1, r.2); spelt = λ a l. at_end d.0 (at_on k.3 a) ∙ ap spell n.0 })
+form_read head.Hold line ws c e =
+    let k = meant_ok (pick turns) line ws _ c e in
+    let q = word_ok line k.1 _ c k.5 in
+    let d = done_ok q.1 _ c q.3 in
+    let t = named turn_name turns k.0.text k.2 refl (picked turns k.0.text k.2 k.4) in
+    let spell : List ℕ → List ℕ = λ t. with_spaces (codes "hold" ∷ t ∷ q.0.text ∷ []) in
+    subst (Read head.Hold line ws) d.1
+    (record { fair = λ p. held_fair k.2 q.0.text (fair_on q.2 q.4 (fair_on k.3 k.6 p).1).0; spelt = λ a l. held_spelt k.2 line q.0.text (at_end d.0 (at_on q.2 (at_on k.3 a)) ∙ ap spell t) })
+form_read head.Queue line ws c e =
+    let k = meant_ok delay line ws _ c e in
+    let q = word_ok line k.1 _ c k.5 in
+    let d = done_ok q.1 _ c q.3 in
+    let n = delay_ok k.0.text k.2 k.4 in
+    let spell : List ℕ → List ℕ = λ t. with_spaces (codes "queue" ∷ t ∷ q.0.text ∷ []) in
+    let spelt : At line (codes "queue" ∷ []) ws → Spelt line (queue q.0.text k.2) =
+    λ a. let s = at_end d.0 (at_on q.2 (at_on k.3 a)) in elim n.0 [ inl t ↦ inl (s ∙ ap spell t) | inr z ↦ inr (z.0, s ∙ ap spell z.1) ] in
+    subst (Read head.Queue line ws) d.1 (record { fair = λ p. ((fair_on q.2 q.4 (fair_on k.3 k.6 p).1).0, n.1); spelt = λ a l. spelt a })
+form_read head.Tick line ws c e =
+    let k = meant_ok number line ws _ c e in
+    let d = done_ok k.1 _ c k.5 in
+    let n = number_ok k.0.text k.2 k.4 in
+    let spell : List ℕ → List ℕ = λ t. with_spaces (codes "tick" ∷ t ∷ []) in
+    subst (Read head.Tick line ws) d.1 (record { fair = λ p. n.1; spelt = λ a l. at_end d.0 (at_on k.3 a) ∙ ap spell n.0 })
+form_read head.Bind line ws c e =
+    let k = meant_ok (pick edits) line ws _ c e in
+    let q = word_ok line k.1 _ c k.5 in
+    let r = word_ok line q.1 _ c q.3 in
+    let t = named edit_name edits k.0.text k.2 refl (picked edits k.0.text k.2 k.4) in
+    let all : ws ≡ k.0 ∷ q.0 ∷ r.0 ∷ r.1 = k.3 ∙ ap (λ v. k.0 ∷ v) (q.2 ∙ ap (λ v. q.0 ∷ v) r.2) in
+    let at : At line (codes "bind" ∷ []) ws → At line (codes "bind" ∷ edit_name k.2 ∷ q.0.text ∷ r.0.text ∷ []) r.1 =
+    λ a. subst (λ (t : List ℕ). At line (codes "bind" ∷ t ∷ q.0.text ∷ r.0.text ∷ []) r.1) t (at_on r.2 (at_on q.2 (at_on k.3 a))) in
+    record {
+      fair = λ p. let w = fair_on q.2 q.4 (fair_on k.3 k.6 p).1 in bound_fair k.2 line r.1 q.0.text r.0.text c w.0 (fair_on r.2 r.4 w.1).0 r.3;
+      spelt = λ a l. bound_spelt k.2 line r.1 q.0.text r.0.text c (at a) (subst (Along 0 line) all (l refl)).2.2.2 r.3;
+    }
+form_read head.Fetch line ws c e =
+    let q = word_ok line ws _ c e in
+    let r = word_ok line q.1 _ c q.3 in
+    let d = done_ok r.1 _ c r.3 in
+    subst (Read head.Fetch line ws) d.1
+    (record { fair = λ p. let w = fair_on q.2 q.4 p in (w.0, (fair_on r.2 r.4 w.1).0); spelt = λ a l. (at_end d.0 (at_on r.2 (at_on q.2 a)), refl) })
+form_read head.Validate line ws c e =
+    let q = word_ok line ws _ c e in
+    let d = done_ok q.1 _ c q.3 in
+    subst (Read head.Validate line ws) d.1 (record { fair = λ p. (fair_on q.2 q.4 p).0; spelt = λ a l. at_end d.0 (at_on q.2 a) })
 
 -- by a line's first word
 pub spoken_read : (line : List ℕ) (c : Said) → spoken line ≡ Ok c → Spelt line c × Fair c
 spoken_read line c e =
-    let k = meant_at line [] c (pick heads) (words 0 line) _ (start line) e in
-    let named = picked head_name heads k.word.text k.means refl k.meant in
-    form_read k.means line k.more c (subst (λ (t : List ℕ). At line (t ∷ []) k.more) named k.at) k.goes_on
+    let k = meant_ok (pick heads) line (words 0 line) _ c e in
+    let t = named head_name heads k.0.text k.2 refl (picked heads k.0.text k.2 k.4) in
+    let f = form_read k.2 line k.1 c k.5 in
+    let start : At line [] (words 0 line) = record { spelt = sym (whole 0 line) } in
+    let at : At line (head_name k.2 ∷ []) k.1 = subst (λ (t : List ℕ). At line (t ∷ []) k.1) t (at_on k.3 start) in
+    (f.spelt at (λ _. (subst (Along 0 line) k.3 (along 0 line)).2), f.fair (fair_on k.3 k.6 (plain_words 0 line)).1)
 
 -- the opening line
 pub opening_read : (line template : List ℕ) → opening line ≡ Ok template → (line ≡ with_spaces (codes "template" ∷ template ∷ [])) × Worded template
 opening_read line template e =
-    let k = meant_at line [] template (pick openings) (words 0 line) _ (start line) e in
-    let p = word_at line _ template k.more _ k.at k.goes_on in
-    let d = done_at line _ template p.more _ p.at p.goes_on in
-    let t = picked (λ _. codes "template") openings k.word.text k.means refl k.meant in
-    (d.0 ∙ (λ i. with_spaces (t i ∷ d.1 i ∷ [])), subst Worded d.1 p.fair)
+    let k = meant_ok (pick openings) line (words 0 line) _ template e in
+    let q = word_ok line k.1 _ template k.5 in
+    let d = done_ok q.1 _ template q.3 in
+    let t = named (λ _. codes "template") openings k.0.text k.2 refl (picked openings k.0.text k.2 k.4) in
+    let start : At line [] (words 0 line) = record { spelt = sym (whole 0 line) } in
+    (at_end d.0 (at_on q.2 (at_on k.3 start)) ∙ (λ i. with_spaces (t i ∷ d.1 i ∷ [])), subst Worded d.1 (fair_on q.2 q.4 (fair_on k.3 k.6 (plain_words 0 line)).1).0)
