@@ -39,12 +39,12 @@ module _ {K V : Type 0} (alike : K → K → Bool) (bucket : K → ℕ) (L : Law
     lone = λ q y z a b. S.lone q y z (subset (bucket q) y (L.small q) a) (subset (bucket q) z (L.small q) b);
   }
 
-  dropped_spot : (q : K) → alike k q ≡ false → at alike bucket L ls' ks q ≡ at alike bucket L ls ks q
+  pub dropped_spot : (q : K) → alike k q ≡ false → at alike bucket L ls' ks q ≡ at alike bucket L ls ks q
   dropped_spot q f =
       let unmarked : get_or (marks alike q ks) out false ≡ false = grind (arith, marks_two alike bucket L k q ks out, found_out.1) in
       grind (arith, cases_eq (bucket q) (bucket k), M.from, other (bucket q), L.small q, seek_without (marks alike q ks) out (chain ls (bucket k)) unmarked)
 
-  dropped_gone : (q : K) → alike k q ≡ true → at alike bucket L ls' ks q ≡ 0
+  pub dropped_gone : (q : K) → alike k q ≡ true → at alike bucket L ls' ks q ≡ 0
   dropped_gone q t =
       let ms = marks alike q ks in
       let e = L.shared k q t in

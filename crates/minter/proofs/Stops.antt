@@ -9,7 +9,7 @@ use Rattle.machine.proofs.Counts.{has_tells}
 use Rattle.machine.proofs.Limits.{outside_none, outside_fewer}
 
 -- how many of a list pass a test
-abbrev passing : (ℕ → Bool) → List ℕ → ℕ
+abbrev pub passing : (ℕ → Bool) → List ℕ → ℕ
 passing p [] = 0
 passing p (x ∷ xs) = cond (p x) (1 + passing p xs) (passing p xs)
 
@@ -17,7 +17,7 @@ once_tail : (x : ℕ) (xs : List ℕ) → Once (x ∷ xs) → Once xs
 once_tail x xs once n = let o = once n in grind (arith, nat_tests)
 
 -- of a list, those that another has, and those outside it
-shared : (held ahead : List ℕ) → Once held → Once ahead → passing (λ x. has x ahead) held + outside held ahead ≡ length ahead
+pub shared : (held ahead : List ℕ) → Once held → Once ahead → passing (λ x. has x ahead) held + outside held ahead ≡ length ahead
 shared [] ahead h a = let e = outside_none ahead in omega arith
 shared (x ∷ held) ahead h a =
     let ih = shared held ahead (once_tail x held h) a in

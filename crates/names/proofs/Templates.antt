@@ -1,12 +1,12 @@
 -- What a template's ghost facts give, and what gives them. Nothing is assumed.
-use Rattle.std.proofs.Common.{◌≡◌, ℕ, ◌+◌, ◌≤◌, Bool, true, false, cond, not, ◌&&◌, eqb, List, ◌∷◌, ◌++◌, length, Ok, Err, Result, sym, refl, ap, ◌∙◌, subst, arith}
-use Rattle.std.proofs.lemmas.List.{length-append}
+use Rattle.std.proofs.Common.{◌≡◌, ℕ, ◌+◌, ◌-◌, ◌≤◌, Bool, true, false, cond, not, ◌&&◌, eqb, List, ◌∷◌, ◌++◌, length, get_or, take, drop, Ok, Err, Result, sym, refl, ap, ◌∙◌, subst, arith}
+use Rattle.std.proofs.lemmas.List.{length-append, take-take, get_or-take, drop-take}
 use Rattle.std.proofs.lemmas.Bool.{eqb-true, eq-eqb, and_parts, and_from}
 use Rattle.names.specs.declared.fault.TemplateFault.{TemplateFault}
 use Rattle.names.specs.declared.template.parts.Shape.{Shape}
 use Rattle.names.specs.declared.template.Template.{Template}
 use Rattle.names.specs.Forms.{Form, spelled, closing, Good}
-use Rattle.names.specs.Reader.{read_shape, reads_as, read_template}
+use Rattle.names.specs.Reader.{read_shape, reads_as, form_of, read_template}
 use Rattle.names.specs.Grammar.{Grammatical, Is, Exact}
 use Rattle.names.specs.Templates.{form}
 use Rattle.names.proofs.Goes.{shape_in}
@@ -69,6 +69,20 @@ sizes text t e =
     let c = read_complete text t e in
     let P : List ℕ → Type 0 = λ l. Sizes l t in
     subst P (sym c.is) (subst (Sizes (spelled c.form)) c.shape_is (sizes_in c.form c.good))
+
+-- the parts stand in the bytes up to the length
+pub form_taken : (len : ℕ) (text : List ℕ) (t : Shape) → 8 + t.shoulder + t.mask ≤ len → form_of (take len text) t ≡ form_of text t
+form_taken len text t h =
+    let sh = t.shoulder in
+    let n = 8 + sh in
+    let past : n + (len - n) ≡ len = omega arith in
+    let front : take (6 + sh) (take len text) ≡ take (6 + sh) text = take-take (6 + sh) len text (omega arith) in
+    let letter : get_or (take len text) (7 + sh) 0 ≡ get_or text (7 + sh) 0 = get_or-take len text (7 + sh) 0 (omega arith) in
+    let mask : take t.mask (drop n (take len text)) ≡ take t.mask (drop n text) =
+    ap (λ k. take t.mask (drop n (take k text))) (sym past)
+    ∙ ap (take t.mask) (drop-take n (len - n) text)
+    ∙ take-take t.mask (len - n) (drop n text) (omega arith) in
+    (λ j. record { prefix = front j; letter = letter j; mask = mask j; check = t.check })
 
 -- a template's own text is that of its form
 pub form_own : (t : Template) → Is t.text (form t)

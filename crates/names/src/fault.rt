@@ -1,6 +1,6 @@
 // Why a template or a name is refused, and how a refusal is told.
-ghost use Rattle.std.specs.Prelude.{◌≡◌};
-ghost use Rattle.names.specs.Faults.{template_refusal, name_refusal};
+ghost use Rattle.std.specs.Prelude.{◌≡◌, Some};
+ghost use Rattle.names.specs.Faults.{template_refusal, name_refusal, layer_word, refusal_text};
 
 use std::fmt;
 
@@ -43,6 +43,8 @@ pub enum NameFault {
 }
 
 impl fmt::Display for Layer {
+    ghost output = { λ x. Some (layer_word x) };
+
     fn fmt<W: fmt::Write>(&self, f: &mut fmt::Formatter<W>) -> fmt::Result {
         f.write_str(match self {
             Layer::Template => "template",
@@ -57,6 +59,8 @@ impl fmt::Display for Layer {
 }
 
 impl fmt::Display for Refusal {
+    ghost output = { λ x. Some (refusal_text x) };
+
     fn fmt<W: fmt::Write>(&self, f: &mut fmt::Formatter<W>) -> fmt::Result {
         let number = self.number;
         let layer = self.layer;

@@ -1,5 +1,6 @@
 // Names by number.
-ghost use Rattle.std.specs.Prelude.{◌≡◌, ◌^◌, ◌<◌, ◌≤◌, true, ◌++◌, length};
+ghost use Rattle.std.specs.Prelude.{◌≡◌, ◌+◌, ◌/◌, ◌%◌, ◌^◌, ◌<◌, ◌≤◌, true, ◌++◌, length};
+ghost use Rattle.names.specs.Alphabet.{char_of};
 ghost use Rattle.names.specs.Naming.{base, digits, ended, form_from, name_of};
 ghost use Rattle.names.specs.Naming as Naming;
 ghost use Rattle.names.specs.Texts.{text_of};
@@ -27,6 +28,28 @@ fn closed(text: Short<28>) -> Short<28>
     closed
 }
 
+// A number's last character at a mask position, and what is left for the positions before it. (Each arm divides by a constant.)
+fn split(position: u8, n: u64) -> (u8, u64)
+    ensures { (result.0 ≡ char_of (n % base position)) × (result.1 ≡ n / base position) }
+{
+    match position {
+        b'd' => (character((n % 10) as u8), n / 10),
+        _ => (character((n % 29) as u8), n / 29),
+    }
+}
+
+// The characters of a number behind a text.
+fn spell(text: &mut Short<28>, mask: &[u8], n: u64)
+    requires { (length text.old + length mask.now ≤ 28) × (n < Naming.total mask.now) }
+    ensures { text.new ≡ text.old ++ digits mask.now n }
+{
+    if let Some((last, before)) = mask.split_last() {
+        let (c, above) = split(*last, n);
+        spell(text, before, above);
+        text.push(c);
+    }
+}
+
 impl Parts<'_> {
     // How many names there are. (`product` over the mask was tried and does not close: what it asks of each partial product is no bound that the map keeps.)
     pub(crate) fn total(&self) -> u64
@@ -46,13 +69,7 @@ impl Parts<'_> {
         ensures { result ≡ self.now.prefix.now ++ digits self.now.mask.now n }
     {
         let mut text = Short::front(self.prefix);
-        let mut unit = self.total();
-        let mut rest = n;
-        for m in self.mask {
-            unit /= base_of(*m);
-            text.push(character((rest / unit) as u8));
-            rest %= unit;
-        }
+        spell(&mut text, self.mask, n);
         text
     }
 

@@ -1,5 +1,5 @@
 -- Lines that are counted. Assumes nothing.
-use Rattle.std.proofs.Common.{◌≡◌, ℕ, ◌+◌, min, Some, None, Ok, MatchOption, Option, refl, sym, ap, ◌∙◌, subst}
+use Rattle.std.proofs.Common.{◌≡◌, ℕ, ◌+◌, ◌≤◌, min, length, Some, None, Ok, MatchOption, Option, refl, sym, ap, ◌∙◌, subst, arith, length-append}
 use Rattle.commands.specs.Faults.{command_refusal}
 use Rattle.commands.specs.Forms.{Said}
 use Rattle.commands.specs.declared.fault.CommandFault.{CommandFault}
@@ -41,3 +41,13 @@ refused_by_register d {after} s {f} {old} {between} {new} {done} {reply} did why
       text = puts_join did.text wrote;
       fault = fault;
     })
+
+-- ---- how long a report is
+
+pub brief_stopped : (d : Desk) (s : Said) (why : RegisterFault) → (performed d.machine s).fault ≡ Some why → length (performed d.machine s).text ≤ 4000
+    → length (line (refused d.lines (command_refusal (Register why)).number (command_refusal (Register why)).place)) ≤ 71 → length (heard d (Ok s)).text ≤ 4096
+brief_stopped d s why bad most short =
+    let p = performed d.machine s in
+    let more = line (refused d.lines (command_refusal (Register why)).number (command_refusal (Register why)).place) in
+    let so : heard d (Ok s) ≡ by_fault d p (Some why) = ap (by_fault d p) bad in
+    omega (arith, ap (λ (a : Answered). length a.text) so, length-append p.text more)

@@ -2,11 +2,12 @@
 use Rattle.std.proofs.Common.{◌≡◌, ℕ, suc, ◌+◌, ◌-◌, ◌<◌, true, false, cond, List, [], ◌∷◌, ◌++◌, is_some, is_ok, Some, None, Ok, Err, Option, Result, sym, refl, ap, ◌∙◌, subst, ap₂, append_assoc, append-nil, add-zero, add_assoc, arith}
 use Rattle.machine.proofs.Runs.{same_naming}
 use Rattle.machine.specs.Calls.{Asked, Mint}
+use Rattle.machine.specs.History.{accepted}
 use Rattle.machine.specs.Machine.{Machine, mint, said, step, final, answers}
 use Rattle.machine.specs.Names.{Name}
 use Rattle.machine.specs.Runs.{Sound}
 use Rattle.machine.specs.declared.call.Answer.{Answer}
-use Rattle.machine.specs.declared.call.Answer.TheVariants.{Minted}
+use Rattle.machine.specs.declared.call.Answer.TheVariants.{Minted, Held, Released, Queued, Ticked, Bound, Purged, Refused}
 use Rattle.machine.specs.declared.fault.RegisterFault.{RegisterFault}
 use Rattle.sessions.specs.Performing.{mints, told_of, tells, minted_by, names_minted, fault_of, or_else, first_fault, Performed, by_calls, Did}
 use Rattle.reports.specs.Reports.{line, minted}
@@ -18,6 +19,17 @@ use Rattle.texts.specs.declared.output.Output.{Output}
 or_none : (o : Option RegisterFault) → or_else o None ≡ o
 or_none (Some f) = refl
 or_none None = refl
+
+-- an answer that has a fault was no acceptance
+pub not_accepted : (a : Answer) → is_some (fault_of a) ≡ true → accepted a ≡ false
+not_accepted (Minted n) e = sym e
+not_accepted (Held n) e = sym e
+not_accepted (Released n) e = sym e
+not_accepted (Queued n) e = sym e
+not_accepted (Ticked s) e = sym e
+not_accepted (Bound n) e = sym e
+not_accepted (Purged n) e = sym e
+not_accepted (Refused f) e = refl
 
 -- one call, reported under the names that the register has after it
 pub one_call : {m after : Machine} (word : List ℕ) (c : Asked) {a : Answer} {old new : Output} {done : Done}

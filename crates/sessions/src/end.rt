@@ -1,7 +1,8 @@
 // The end of a session.
-ghost use Rattle.std.specs.Prelude.{◌≡◌, ◌-◌, ◌<◌, ◌≤◌, true, length, is_ok};
+ghost use Rattle.std.specs.Prelude.{◌≡◌, ◌-◌, ◌<◌, ◌≤◌, true, false, length, is_ok};
 ghost use Rattle.reports.specs.Reports.{line, tally};
 ghost use Rattle.texts.specs.Output.{Puts};
+ghost use Rattle.sessions.specs.Lends.{Lends};
 ghost use Rattle.sessions.specs.Ends.{tally_line, tally_lines, closing, Closes};
 ghost use Rattle.sessions.specs.Tallies.{tallies_in, under};
 
@@ -34,6 +35,7 @@ fn write_count(number: u8, count: u64, out: &mut Output<'_>)
 fn write_tally<U: Store<TallyKey, u64>>(tallies: &U, number: u8, out: &mut Output<'_>)
     ensures text { U.Store.sound tallies.now → Puts out.old (tally_line number ((tallies_in (U.Store.pairs tallies.now) (U.Store.capacity tallies.now)).counts (under number))) out.new }
     ensures brief { U.Store.sound tallies.now → length (tally_line number ((tallies_in (U.Store.pairs tallies.now) (U.Store.capacity tallies.now)).counts (under number))) ≤ 48 }
+    ensures lends { Lends out.old out.new }
 {
     let mut count = 0;
     if tallies.get(&TallyKey { number }, &mut count) {
@@ -45,6 +47,7 @@ fn write_tally<U: Store<TallyKey, u64>>(tallies: &U, number: u8, out: &mut Outpu
 fn write_tallies<U: Store<TallyKey, u64>>(tallies: &U, out: &mut Output<'_>)
     ensures text { U.Store.sound tallies.now → Puts out.old (tally_lines (tallies_in (U.Store.pairs tallies.now) (U.Store.capacity tallies.now)) 30 1) out.new }
     ensures brief { U.Store.sound tallies.now → length (tally_lines (tallies_in (U.Store.pairs tallies.now) (U.Store.capacity tallies.now)) 30 1) ≤ 1440 }
+    ensures lends { Lends out.old out.new }
 {
     for number in 1..PAST_THE_LAST {
         write_tally(tallies, number, out);
@@ -59,7 +62,9 @@ impl OpenSession {
         out: &mut Output<'_>,
     ) -> Result<EndedSession, StillOpen>
         ensures closes { U.Store.sound tallies.now → Closes (length out.old.bytes.now - out.old.fill) (tallies_in (U.Store.pairs tallies.now) (U.Store.capacity tallies.now)) self out.old out.new result }
+        ensures refusal { is_ok result ≡ false → out.new ≡ out.old }
         ensures brief { U.Store.sound tallies.now → is_ok result ≡ true → length (closing (tallies_in (U.Store.pairs tallies.now) (U.Store.capacity tallies.now)) self.minted) < 4096 }
+        ensures lends { Lends out.old out.new }
     {
         if let Err(fault) = find_room(out) {
             return Err(StillOpen {

@@ -6,6 +6,7 @@ ghost use Rattle.minter.specs.Meaning.{meaning};
 ghost use Rattle.machine.specs.Runs.{Sound};
 ghost use Rattle.reports.specs.Reports.{line as bytes_of_line, refused};
 ghost use Rattle.texts.specs.Output.{Puts};
+ghost use Rattle.sessions.specs.Lends.{Lends};
 ghost use Rattle.sessions.specs.Frames.{desk, heard, roomy, admitted, framed, answered, Within, Replied};
 ghost use Rattle.sessions.specs.Performing.{performed};
 ghost use Rattle.sessions.specs.Tallies.{tallies_in, tallied};
@@ -102,6 +103,7 @@ fn hear<S: Source, T: Store<TextKey, Text>, U: Store<TallyKey, u64>>(
     ensures store { T.Store.sound register.old.texts → T.Store.sound register.new.texts }
     ensures tallies { U.Store.sound tallies.old → U.Store.sound tallies.new }
     ensures sound { Sound (meaning S.Source.stock T.Store.pairs T.Store.capacity register.old) → T.Store.sound register.old.texts → Sound (meaning S.Source.stock T.Store.pairs T.Store.capacity register.new) }
+    ensures lends { Lends out.old out.new }
     ensures brief { Sound (meaning S.Source.stock T.Store.pairs T.Store.capacity register.old) → T.Store.sound register.old.texts → length (performed (meaning S.Source.stock T.Store.pairs T.Store.capacity register.old) (said command.entry)).text ≤ 4000 → length (heard (desk S.Source.stock T.Store.pairs T.Store.capacity U.Store.pairs U.Store.capacity register.old tallies.old session) (Ok (said command.entry))).text ≤ 4096 }
 {
     let OpenSession { lines, minted } = session;
@@ -133,6 +135,7 @@ impl OpenSession {
         ensures store { T.Store.sound register.old.texts → T.Store.sound register.new.texts }
         ensures tallies { U.Store.sound tallies.old → U.Store.sound tallies.new }
         ensures sound { Sound (meaning S.Source.stock T.Store.pairs T.Store.capacity register.old) → T.Store.sound register.old.texts → Sound (meaning S.Source.stock T.Store.pairs T.Store.capacity register.new) }
+        ensures lends { Lends out.old out.new }
         ensures brief { Sound (meaning S.Source.stock T.Store.pairs T.Store.capacity register.old) → T.Store.sound register.old.texts → Within (meaning S.Source.stock T.Store.pairs T.Store.capacity register.old) (said_read read.entry) → length (framed (length out.old.bytes.now - out.old.fill) (desk S.Source.stock T.Store.pairs T.Store.capacity U.Store.pairs U.Store.capacity register.old tallies.old self) (said_read read.entry)).text ≤ 4096 }
     {
         if let Err(fault) = admit(self.lines, out) {
@@ -170,6 +173,7 @@ impl OpenSession {
         ensures store { T.Store.sound register.old.texts → T.Store.sound register.new.texts }
         ensures tallies { U.Store.sound tallies.old → U.Store.sound tallies.new }
         ensures sound { Sound (meaning S.Source.stock T.Store.pairs T.Store.capacity register.old) → T.Store.sound register.old.texts → Sound (meaning S.Source.stock T.Store.pairs T.Store.capacity register.new) }
+        ensures lends { Lends out.old out.new }
         ensures brief { Sound (meaning S.Source.stock T.Store.pairs T.Store.capacity register.old) → T.Store.sound register.old.texts → length (answered (length out.old.bytes.now - out.old.fill) (desk S.Source.stock T.Store.pairs T.Store.capacity U.Store.pairs U.Store.capacity register.old tallies.old self) text.now).text ≤ 4096 }
     {
         self.frame(register, tallies, read_command(text), out)

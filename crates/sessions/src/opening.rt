@@ -3,6 +3,7 @@ ghost use Rattle.std.specs.Prelude.{◌≡◌, ◌-◌, ◌≤◌, true, ◌||�
 ghost use Rattle.commands.specs.Forms.{opens};
 ghost use Rattle.names.specs.Reader.{read_template};
 ghost use Rattle.names.specs.Templates.{form};
+ghost use Rattle.sessions.specs.Lends.{Lends};
 ghost use Rattle.sessions.specs.Opening.{NewDesk, new_desk, turned_away, entered, opened, Led};
 ghost use Rattle.sessions.specs.Tallies.{tallies_in};
 
@@ -64,6 +65,7 @@ impl NewSession {
         ensures led { U.Store.sound tallies.old → Led (opened (length out.old.bytes.now - out.old.fill) (new_desk U.Store.pairs U.Store.capacity tallies.old self.lines) text.now) (tallies_in (U.Store.pairs tallies.new) (U.Store.capacity tallies.new)) out.old out.new result }
         ensures unheard { (nat_le 65535 self.lines || nat_lt (length out.old.bytes.now - out.old.fill) 4096) ≡ true → (tallies.new ≡ tallies.old) × (out.new ≡ out.old) }
         ensures sound { U.Store.sound tallies.old → U.Store.sound tallies.new }
+        ensures lends { Lends out.old out.new }
         ensures brief { length (opened (length out.old.bytes.now - out.old.fill) (new_desk U.Store.pairs U.Store.capacity tallies.old self.lines) text.now).text ≤ 4096 }
     {
         if let Err(fault) = admit(self.lines, out) {

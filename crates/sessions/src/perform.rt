@@ -6,6 +6,7 @@ ghost use Rattle.minter.specs.Meaning.{meaning};
 ghost use Rattle.machine.specs.Runs.{Sound};
 ghost use Rattle.reports.specs.Reports.{line, told};
 ghost use Rattle.texts.specs.Output.{Puts};
+ghost use Rattle.sessions.specs.Lends.{Lends};
 ghost use Rattle.sessions.specs.Performing.{told_of, minted_by, fault_of, mints, by_calls, performed, Did};
 
 use commands::command::Command;
@@ -84,6 +85,7 @@ fn ask<S: Source, T: Store<TextKey, Text>>(
     ensures refusal { Sound (meaning S.Source.stock T.Store.pairs T.Store.capacity register.old) → T.Store.sound register.old.texts → is_some result.fault ≡ true → register.new ≡ register.old }
     ensures store { T.Store.sound register.old.texts → T.Store.sound register.new.texts }
     ensures sound { Sound (meaning S.Source.stock T.Store.pairs T.Store.capacity register.old) → T.Store.sound register.old.texts → Sound (meaning S.Source.stock T.Store.pairs T.Store.capacity register.new) }
+    ensures lends { Lends out.old out.new }
 {
     let answer = register.serve(&call);
     tell(register, answer, word, out)
@@ -99,6 +101,7 @@ fn mint_names<S: Source, T: Store<TextKey, Text>>(
     ensures refusal { Sound (meaning S.Source.stock T.Store.pairs T.Store.capacity register.old) → T.Store.sound register.old.texts → is_some result.fault ≡ true → result.minted ≡ 0 → register.new ≡ register.old }
     ensures store { T.Store.sound register.old.texts → T.Store.sound register.new.texts }
     ensures sound { Sound (meaning S.Source.stock T.Store.pairs T.Store.capacity register.old) → T.Store.sound register.old.texts → Sound (meaning S.Source.stock T.Store.pairs T.Store.capacity register.new) }
+    ensures lends { Lends out.old out.new }
 {
     for i in 0..count {
         let one = ask(register, Call::Mint, b"", out);
@@ -123,7 +126,8 @@ fn fetch_text<S: Source, T: Store<TextKey, Text>>(
     element: Option<Element>,
     out: &mut Output<'_>,
 ) -> Done
-    ensures { T.Store.sound register.now.texts → Did (performed (meaning S.Source.stock T.Store.pairs T.Store.capacity register.now) (fetch name.now word.now element)) (meaning S.Source.stock T.Store.pairs T.Store.capacity register.now) out.old out.new result }
+    ensures did { T.Store.sound register.now.texts → Did (performed (meaning S.Source.stock T.Store.pairs T.Store.capacity register.now) (fetch name.now word.now element)) (meaning S.Source.stock T.Store.pairs T.Store.capacity register.now) out.old out.new result }
+    ensures lends { Lends out.old out.new }
 {
     let mut text = Text::new();
     match register.fetch(name, element, &mut text) {
@@ -141,7 +145,8 @@ fn validate_name<S: Source, T: Store<TextKey, Text>>(
     name: &[u8],
     out: &mut Output<'_>,
 ) -> Done
-    ensures { Did (performed (meaning S.Source.stock T.Store.pairs T.Store.capacity register.now) (validate name.now)) (meaning S.Source.stock T.Store.pairs T.Store.capacity register.now) out.old out.new result }
+    ensures did { Did (performed (meaning S.Source.stock T.Store.pairs T.Store.capacity register.now) (validate name.now)) (meaning S.Source.stock T.Store.pairs T.Store.capacity register.now) out.old out.new result }
+    ensures lends { Lends out.old out.new }
 {
     match register.validate(name) {
         Ok(n) => report(out, Report::Valid(register.name(n).as_slice())),
@@ -159,6 +164,7 @@ pub fn perform<S: Source, T: Store<TextKey, Text>>(
     ensures refusal { Sound (meaning S.Source.stock T.Store.pairs T.Store.capacity register.old) → T.Store.sound register.old.texts → is_some result.fault ≡ true → result.minted ≡ 0 → register.new ≡ register.old }
     ensures store { T.Store.sound register.old.texts → T.Store.sound register.new.texts }
     ensures sound { Sound (meaning S.Source.stock T.Store.pairs T.Store.capacity register.old) → T.Store.sound register.old.texts → Sound (meaning S.Source.stock T.Store.pairs T.Store.capacity register.new) }
+    ensures lends { Lends out.old out.new }
 {
     match command {
         Command::Mint(count) => mint_names(register, count, out),

@@ -204,7 +204,7 @@ run_append b (suc m) n =
     rw (e, e2) (ap (λ (l : List ℕ). b ∷ l) (run_append (b + 1) m n))
 
 -- a word of the lowest bits, and the words after it
-filled : (b n m w : ℕ) (rest : List ℕ) → ((d : ℕ) → bits_from 64 d w ≡ run d (min n 64)) → rest ≡ run (b + 64) m → m ≡ n - 64 → bits_from 64 b w ++ rest ≡ run b n
+pub filled : (b n m w : ℕ) (rest : List ℕ) → ((d : ℕ) → bits_from 64 d w ≡ run d (min n 64)) → rest ≡ run (b + 64) m → m ≡ n - 64 → bits_from 64 b w ++ rest ≡ run b n
 unfolding run
 filled b n m w rest h e d =
     ap₂ (λ (xs ys : List ℕ). xs ++ ys) (h b) e ∙ ⊎_elim

@@ -1,9 +1,23 @@
 -- Texts put into a buffer one after another. Assumes nothing.
-use Rattle.std.proofs.Common.{◌≡◌, ℕ, zero, suc, ◌+◌, ◌-◌, List, [], ◌∷◌, ◌++◌, length, take, drop, sym, refl, ap, ◌∙◌, arith}
-use Rattle.std.proofs.lemmas.List.{length-append, length-drop, length-take, take-append-drop}
+use Rattle.std.proofs.Common.{◌≡◌, ℕ, zero, suc, ◌+◌, ◌-◌, ◌≤◌, List, [], ◌∷◌, ◌++◌, length, take, drop, sym, refl, ap, ◌∙◌, append-nil, arith}
+use Rattle.std.proofs.lemmas.List.{drop_all, length-append, length-drop, length-take, take_all, take-append-drop}
 use Rattle.std.proofs.Math.Seq.{take-nil, drop-nil}
 use Rattle.texts.specs.Output.{fitting, written, Wrote, Puts}
 use Rattle.texts.specs.declared.output.Output.{Output}
+
+-- no room at all
+pub put_none : (out text : List ℕ) (fill : ℕ) → length out ≤ fill → Wrote out fill text out fill
+put_none out text fill h =
+    let room : length out - fill ≡ 0 = omega arith in
+    let fits : fitting out fill text ≡ [] = ap (λ k. take k text) room in
+    record {
+      bytes = sym (append-nil out) ∙ (λ i. sym (take_all fill out h) i ++ (sym fits i ++ sym (drop_all (fill + length text) out (omega arith)) i));
+      place = omega (arith, ap length fits);
+    }
+
+-- a buffer keeps its length
+pub written_length : (out : List ℕ) (fill : ℕ) (text : List ℕ) → length (written out fill text) ≡ length out
+written_length out fill text = simp (length-append, length-take, length-drop) (omega arith)
 
 -- a buffer with no bytes
 written_none : (fill : ℕ) (text : List ℕ) → written [] fill text ≡ []

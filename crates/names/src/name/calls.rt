@@ -1,5 +1,5 @@
 // How a name is made, and what it gives.
-ghost use Rattle.std.specs.Prelude.{◌≡◌, ◌≤◌, length};
+ghost use Rattle.std.specs.Prelude.{◌≡◌, ◌≤◌, length, Some};
 ghost use Rattle.names.specs.Texts.{text_of};
 
 use super::Name;
@@ -23,11 +23,12 @@ impl Name {
     }
 }
 
+// Its bytes are characters of the template's text and of the 29, so the error is never met.
 impl fmt::Display for Name {
+    ghost output = { λ x. Some (text_of x) };
+
     fn fmt<W: fmt::Write>(&self, f: &mut fmt::Formatter<W>) -> fmt::Result {
-        for b in self.as_slice() {
-            f.write_char(char::from(*b))?;
-        }
-        Ok(())
+        let text = std::str::from_utf8(self.as_slice()).map_err(|_| fmt::Error)?;
+        f.write_str(text)
     }
 }

@@ -1,4 +1,5 @@
 use Rattle.std.proofs.Common.{sym, refl, ◌∙◌, arith}
+use Rattle.sessions.proofs.Lending.{lends_join}
 use Rattle.sessions.proofs.Performs.{goes_on, ends_refused}
 use Rattle.sessions.proofs.perform.mint_names.Goals as goal
 
@@ -15,5 +16,6 @@ loop-i-preserved g c =
       minting = λ s k. let going = inv.minting s k in
           goes_on c.loop-i-test.true going (one.did going.sound going.store) (sym c.is_some.ensures ∙ c.if-is_some.false) (one.sound going.sound going.store) (one.store going.store);
       untouched = λ z. absurd (omega (arith, z));
+      lends = lends_join inv.lends one.lends;
       store = λ k. one.store (inv.store k);
     }
