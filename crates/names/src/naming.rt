@@ -1,5 +1,5 @@
 // Names by number.
-ghost use Rattle.std.specs.Prelude.{◌≡◌, ◌+◌, ◌/◌, ◌%◌, ◌^◌, ◌<◌, ◌≤◌, true, ◌++◌, length};
+ghost use Rattle.std.specs.Prelude.{◌≡◌, ◌+◌, ◌/◌, ◌%◌, ◌^◌, ◌<◌, ◌≤◌, true, ◌++◌, length, take, drop, MatchOption};
 ghost use Rattle.names.specs.Alphabet.{char_of};
 ghost use Rattle.names.specs.Naming.{base, digits, ended, form_from, name_of};
 ghost use Rattle.names.specs.Naming as Naming;
@@ -38,16 +38,29 @@ fn split(position: u8, n: u64) -> (u8, u64)
     }
 }
 
-// The characters of a number behind a text.
-fn spell(text: &mut Short<28>, mask: &[u8], n: u64)
-    requires { (length text.old + length mask.now ≤ 28) × (n < Naming.total mask.now) }
-    ensures { text.new ≡ text.old ++ digits mask.now n }
+// Writes the characters of a number, the last position's first. What is left above the positions is none where the number is below their total.
+fn spell(out: &mut [u8], mask: &[u8], n: u64) -> u64
+    requires { length mask.now ≤ length out.old }
+    ensures above { result ≡ n / Naming.total mask.now }
+    ensures digits { n < Naming.total mask.now → out.new ≡ digits mask.now n ++ drop (length mask.now) out.old }
 {
-    if let Some((last, before)) = mask.split_last() {
-        let (c, above) = split(*last, n);
-        spell(text, before, above);
-        text.push(c);
-    }
+    let Some((last, before)) = mask.split_last() else {
+        return n;
+    };
+    let (c, above) = split(*last, n);
+    out[before.len()] = c;
+    spell(out, before, above)
+}
+
+// Writes a prefix and the characters of a number at the beginning of a text. The answer is what is left above the positions.
+fn write_body(out: &mut [u8], prefix: &[u8], mask: &[u8], n: u64) -> u64
+    requires { length prefix.now + length mask.now ≤ length out.old }
+    ensures above { result ≡ n / Naming.total mask.now }
+    ensures text { n < Naming.total mask.now → take (length prefix.now + length mask.now) out.new ≡ prefix.now ++ digits mask.now n }
+{
+    let (front, rest) = out.split_at_mut(prefix.len());
+    front.copy_from_slice(prefix);
+    spell(rest, mask, n)
 }
 
 impl Parts<'_> {
@@ -63,24 +76,25 @@ impl Parts<'_> {
         total
     }
 
-    // Number n below the total without its check character.
-    fn body(&self, n: u64) -> Short<28>
-        requires { n < Naming.total self.now.mask.now }
-        ensures { result ≡ self.now.prefix.now ++ digits self.now.mask.now n }
+    // Number n without its check character; none from the total on.
+    fn body(&self, n: u64) -> Option<Short<28>>
+        ensures { MatchOption result (Naming.total self.now.mask.now ≤ n) (λ text. (n < Naming.total self.now.mask.now) × (text ≡ self.now.prefix.now ++ digits self.now.mask.now n)) }
     {
-        let mut text = Short::front(self.prefix);
-        spell(&mut text, self.mask, n);
-        text
+        let mut bytes = [0; 28];
+        let above = write_body(&mut bytes, self.prefix, self.mask, n);
+        if above > 0 {
+            return None;
+        }
+        Some(Short::front(&bytes[..self.prefix.len() + self.mask.len()]))
     }
 
     // Name number n; empty from the total on.
     pub(crate) fn name(&self, n: u64) -> Name
         ensures { text_of result ≡ name_of (form_from self.now) n }
     {
-        if n >= self.total() {
+        let Some(body) = self.body(n) else {
             return Name::of(Short::new());
-        }
-        let body = self.body(n);
+        };
         if self.check {
             Name::of(closed(body))
         } else {

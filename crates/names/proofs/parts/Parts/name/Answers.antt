@@ -13,24 +13,24 @@ long : (p m : List ℕ) (n : ℕ) → length (p ++ digits m n) ≡ length p + le
 long p m n = length-append p (digits m n) ∙ ap (λ k. length p + k) (length_digits m n)
 
 pub closed-requires : goal.closed-requires
-closed-requires c = omega (arith, ap length c.body-body.ensures, long c.args.self.now.prefix.now c.args.self.now.mask.now c.args.n)
+closed-requires c = omega (arith, ap length c.in-Some.ensures.1, long c.args.self.now.prefix.now c.args.self.now.mask.now c.args.n)
 
 pub of-requires-then-self : goal.of-requires-then-self
 of-requires-then-self c =
-    let t = c.body-body.result in
-    omega (arith, ap length c.body-body.ensures, long c.args.self.now.prefix.now c.args.self.now.mask.now c.args.n, ap length c.closed.ensures, length_push t (check_char t))
+    let t = c.in-Some.body in
+    omega (arith, ap length c.in-Some.ensures.1, long c.args.self.now.prefix.now c.args.self.now.mask.now c.args.n, ap length c.closed.ensures, length_push t (check_char t))
 
 pub of-requires-else-self : goal.of-requires-else-self
-of-requires-else-self c = omega (arith, ap length c.body-body.ensures, long c.args.self.now.prefix.now c.args.self.now.mask.now c.args.n)
+of-requires-else-self c = omega (arith, ap length c.in-Some.ensures.1, long c.args.self.now.prefix.now c.args.self.now.mask.now c.args.n)
 
 pub returns-then-self : goal.returns-then-self
 returns-then-self c =
     let p = c.args.self.now.prefix.now in
     let m = c.args.self.now.mask.now in
-    c.of-then-self.ensures ∙ (c.closed.ensures ∙ (ap (ended true) c.body-body.ensures ∙ (ap (λ b. ended b (p ++ digits m c.args.n)) (sym c.if-self.true) ∙ sym (named p m c.args.self.now.check c.args.n (omega arith)))))
+    c.of-then-self.ensures ∙ (c.closed.ensures ∙ (ap (ended true) c.in-Some.ensures.1 ∙ (ap (λ b. ended b (p ++ digits m c.args.n)) (sym c.if-self.true) ∙ sym (named p m c.args.self.now.check c.args.n c.in-Some.ensures.0))))
 
 pub returns-else-self : goal.returns-else-self
 returns-else-self c =
     let p = c.args.self.now.prefix.now in
     let m = c.args.self.now.mask.now in
-    c.of-else-self.ensures ∙ (c.body-body.ensures ∙ (ap (λ b. ended b (p ++ digits m c.args.n)) (sym c.if-self.false) ∙ sym (named p m c.args.self.now.check c.args.n (omega arith))))
+    c.of-else-self.ensures ∙ (c.in-Some.ensures.1 ∙ (ap (λ b. ended b (p ++ digits m c.args.n)) (sym c.if-self.false) ∙ sym (named p m c.args.self.now.check c.args.n c.in-Some.ensures.0)))
