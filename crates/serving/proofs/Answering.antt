@@ -39,13 +39,14 @@ put_whole {old} {new} {text} put h =
       omega (arith, ap length put.wrote.bytes, front, back, ap length all, length-take-le old.fill old.bytes.now (omega arith), length-drop (old.fill + length text) old.bytes.now),
     )
 
-pub goes_on : {store store' tallies tallies' : Type 0} {d e e' : Desk} {lines all left : List (List ℕ)} {l : List ℕ} {old was now : output.Output} {reply : Reply}
-    → Answering store tallies d e lines all old was → all ≡ l ∷ left → Replied (answered (length was.bytes.now - was.fill) e l) e' was now reply → length (answered (length was.bytes.now - was.fill) e l).text ≤ 4096
-    → Sound e'.machine → store' → tallies' → Answering store' tallies' d e' lines left old now
-goes_on {d = d} {e} {e'} {lines} {all} {left} {l} {was = was} {now} going next replied brief s k u =
+-- what was said is the answer to the first line that was left
+pub goes_on : {store store' tallies tallies' : Type 0} {d e e' : Desk} {lines all left : List (List ℕ)} {l : List ℕ} {old was now : output.Output} {reply : Reply} {said : Answered}
+    → Answering store tallies d e lines all old was → all ≡ l ∷ left → Replied said e' was now reply → length said.text ≤ 4096
+    → Sound e'.machine → store' → tallies' → said ≡ answered (length was.bytes.now - was.fill) e l → Answering store' tallies' d e' lines left old now
+goes_on {d = d} {e} {e'} {lines} {all} {left} {l} {was = was} {now} {said = said} going next replied brief s k u same =
     let room : was.fill + 4096 * (length left + 2) ≤ length was.bytes.now = omega (arith, going.room, ap length next) in
-    let so : answered (length was.bytes.now - was.fill) e l ≡ answered 4096 e l = free_enough (length was.bytes.now - was.fill) e l (omega (arith, room)) in
-    let text = (answered (length was.bytes.now - was.fill) e l).text in
+    let so : said ≡ answered 4096 e l = same ∙ free_enough (length was.bytes.now - was.fill) e l (omega (arith, room)) in
+    let text = said.text in
     let whole = put_whole replied.text (omega (arith, room, brief)) in
     record {
       sound = s;
